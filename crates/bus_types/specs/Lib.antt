@@ -1,0 +1,9 @@
+pub mod Causes
+pub mod Change
+pub mod Window
+pub mod Timeline
+pub mod Table
+pub mod View
+pub mod Cut
+pub mod Relay
+pub mod Script

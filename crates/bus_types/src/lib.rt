@@ -1,0 +1,25 @@
+//! What every part of the bus speaks of: rows and their changes, windows of changes, and the list of windows
+//! that a source committed, with the definitions that contracts cite (`specs/`). It stands on no crate of the
+//! bus. The layers above make windows through `Window::new` and `Window::cut` alone, so each is within its limits.
+#![tactic(auto)]
+
+mod change;
+mod changes;
+mod fault;
+mod laws;
+mod limits;
+mod payload;
+mod timeline;
+mod window;
+
+pub use change::{Change, Key, RowName};
+pub use changes::Changes;
+pub use fault::{Failed, NoMemory};
+pub use laws::{a_reply_is_the_longest_run, table_holds_last_puts};
+pub use limits::{MAX_CHANGES, MAX_PAYLOAD, MAX_SCN, MAX_WINDOW};
+pub use payload::{Payload, PayloadFault};
+pub use timeline::{Timeline, Untold};
+pub use window::{Window, WindowFault};
+
+#[cfg(test)]
+mod tests;

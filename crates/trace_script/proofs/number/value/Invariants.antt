@@ -1,0 +1,9 @@
+use Rattle.std.proofs.Common.{◌≡◌, ◌<◌, ◌^◌, drop}
+use Rattle.trace_script.specs.Words.{value_from}
+use Rattle.trace_script.proofs.number.value.Given as goal
+
+abbrev pub invariant-loop-digit : goal.invariant-loop-digit
+invariant-loop-digit l = record {
+  small : l.value < 2 ^ 64;
+  same : value_from l.value (drop l.digit-index l.digits) ≡ value_from 0 l.digits;
+}

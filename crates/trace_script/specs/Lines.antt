@@ -1,0 +1,70 @@
+-- The line that a text spells, by its words.
+use Rattle.std.specs.Prelude.{ℕ, Bool, true, if◌then◌else◌, ◌==◌, nat_le, List, [], ◌∷◌, codes, bytes_eq, Option, Some, None}
+use Rattle.std.specs.List.{list_any}
+use Rattle.trace_script.specs.declared.line.Line.{Line}
+use Rattle.trace_script.specs.declared.line.Line.TheVariants.{Blank, Consumer, Commit, Feed, Poll, Show}
+use Rattle.trace_script.specs.Words.{◌>>=◌, words_of, number_of, name_of, changes_of, max_u64}
+
+-- `consumer NAME all`
+unfoldable pub consumer_of : List (List ℕ) → Option Line
+consumer_of (name ∷ filter ∷ []) = do
+  known ← name_of name
+  if bytes_eq filter (codes "all") then Some (Consumer known) else None
+consumer_of [] = None
+consumer_of (name ∷ []) = None
+consumer_of (name ∷ filter ∷ more ∷ words) = None
+
+-- `commit SCN CHANGE ..`, with at least one change
+unfoldable pub commit_of : List (List ℕ) → Option Line
+commit_of (scn ∷ change ∷ words) = do
+  number ← number_of max_u64 scn
+  changes ← changes_of (change ∷ words)
+  Some (Commit number changes)
+commit_of [] = None
+commit_of (scn ∷ []) = None
+
+-- `feed N`
+unfoldable pub feed_of : List (List ℕ) → Option Line
+feed_of (count ∷ []) = do
+  number ← number_of 1000000 count
+  if nat_le 1 number then Some (Feed number) else None
+feed_of [] = None
+feed_of (count ∷ more ∷ words) = None
+
+-- `poll NAME MAX`
+unfoldable pub poll_of : List (List ℕ) → Option Line
+poll_of (name ∷ max ∷ []) = do
+  known ← name_of name
+  number ← number_of 16777216 max
+  if nat_le 1 number then Some (Poll known number) else None
+poll_of [] = None
+poll_of (name ∷ []) = None
+poll_of (name ∷ max ∷ more ∷ words) = None
+
+-- `show NAME`
+unfoldable pub show_of : List (List ℕ) → Option Line
+show_of (name ∷ []) = do
+  known ← name_of name
+  Some (Show known)
+show_of [] = None
+show_of (name ∷ more ∷ words) = None
+
+-- the first word says which line it is
+unfoldable pub words_line : List (List ℕ) → Option Line
+words_line [] = None
+words_line (word ∷ words) =
+    if bytes_eq word (codes "commit") then commit_of words
+    else if bytes_eq word (codes "feed") then feed_of words
+    else if bytes_eq word (codes "poll") then poll_of words
+    else if bytes_eq word (codes "show") then show_of words
+    else if bytes_eq word (codes "consumer") then consumer_of words
+    else None
+
+-- whether the text is empty or begins with `#`
+abbrev pub is_blank : List ℕ → Bool
+is_blank [] = true
+is_blank (b ∷ bs) = b == 35
+
+-- the line of a text without its LF; a text with a CR is none
+unfoldable pub line_of : List ℕ → Option Line
+line_of text = if list_any (λ b. b == 13) text then None else if is_blank text then Some Blank else words_line (words_of text)

@@ -1,0 +1,90 @@
+-- The words of a line: numbers, names, changes.
+use Rattle.std.specs.Prelude.{ℕ, ◌+◌, ◌-◌, ◌*◌, Bool, if◌then◌else◌, ◌==◌, ◌||◌, ◌&&◌, nat_lt, nat_le, List, [], ◌∷◌, length, take, drop, position, slice_index, Option, Some, None, option_and_then, option_map}
+use Rattle.std.specs.Result.{result_ok}
+use Rattle.std.specs.List.{list_all, slice_split}
+use Rattle.hex.specs.Hex.{decode_of}
+use Rattle.bus_types.specs.declared.change.Key.{Key}
+use Rattle.bus_types.specs.declared.change.Key.TheVariants.{Long}
+use Rattle.bus_types.specs.declared.change.Change.{Change}
+use Rattle.bus_types.specs.declared.limits.TheConstants.{MAX_PAYLOAD}
+
+infixl 10 ◌>>=◌
+abbrev pub ◌>>=◌ : {A B : Type 0} → Option A → (A → Option B) → Option B
+o >>= f = option_and_then f o
+
+-- the parts between spaces; two spaces in a row, or one at an end, leave an empty part, which is no word
+abbrev pub words_of : List ℕ → List (List ℕ)
+words_of bytes = slice_split (λ b. b == 32) bytes
+
+-- what stands before and after the first such byte
+abbrev pub cut_at : ℕ → List ℕ → Option (List ℕ × List ℕ)
+cut_at byte bytes = option_map (λ i. (take i bytes, drop (i + 1) bytes)) (position (λ b. b == byte) bytes)
+
+-- ---- numbers
+
+abbrev pub is_digit : ℕ → Bool
+is_digit b = nat_le 48 b && nat_le b 57
+
+abbrev pub value_from : ℕ → List ℕ → ℕ
+value_from n [] = n
+value_from n (b ∷ bs) = value_from (n * 10 + (b - 48)) bs
+
+-- decimal digits, at least one, without a leading zero but `0` itself
+abbrev pub is_numeral : List ℕ → Bool
+is_numeral bytes = list_all is_digit bytes && nat_lt 0 (length bytes) && (length bytes == 1 || nat_lt 48 (slice_index bytes 0))
+
+unfoldable pub number_of : ℕ → List ℕ → Option ℕ
+number_of max bytes = if is_numeral bytes && nat_le (value_from 0 bytes) max then Some (value_from 0 bytes) else None
+
+-- ---- names
+
+abbrev pub is_name_byte : ℕ → Bool
+is_name_byte b = (nat_le 97 b && nat_le b 122) || is_digit b || b == 95
+
+abbrev pub is_name_text : List ℕ → Bool
+is_name_text bytes = nat_le 1 (length bytes) && nat_le (length bytes) 16 && list_all is_name_byte bytes
+
+unfoldable pub name_of : List ℕ → Option (List ℕ)
+name_of bytes = if is_name_text bytes then Some bytes else None
+
+-- ---- changes
+
+abbrev pub max_u64 : ℕ
+max_u64 = 18446744073709551615
+
+unfoldable pub key_of : List ℕ → Option Key
+key_of bytes = option_map Long (number_of max_u64 bytes)
+
+abbrev pub is_lower_hex : ℕ → Bool
+is_lower_hex b = is_digit b || (nat_le 97 b && nat_le b 102)
+
+-- two lower-case digits for each byte
+unfoldable pub payload_of : List ℕ → Option (List ℕ)
+payload_of text = do
+  bytes ← if list_all is_lower_hex text then result_ok (decode_of text) else None
+  if nat_le (length bytes) MAX_PAYLOAD then Some bytes else None
+
+-- behind the slash: `K=HEX`, or `K-` where there is no `=`
+unfoldable pub put_or_delete : ℕ → List ℕ → Option (List ℕ × List ℕ) → Option Change
+put_or_delete source rest (Some parts) = do
+  key ← key_of parts.0
+  payload ← payload_of parts.1
+  Some (record { source = source; key = key; put = Some payload })
+put_or_delete source rest None = do
+  parts ← cut_at 45 rest
+  key ← key_of parts.0
+  if length parts.1 == 0 then Some (record { source = source; key = key; put = None }) else None
+
+-- `S/K=HEX` or `S/K-`
+unfoldable pub change_of : List ℕ → Option Change
+change_of text = do
+  parts ← cut_at 47 text
+  source ← number_of 65535 parts.0
+  put_or_delete source parts.1 (cut_at 61 parts.1)
+
+unfoldable pub changes_of : List (List ℕ) → Option (List Change)
+changes_of [] = Some []
+changes_of (word ∷ words) = do
+  change ← change_of word
+  changes ← changes_of words
+  Some (change ∷ changes)

@@ -1,0 +1,127 @@
+ghost use Rattle.std.specs.Prelude.{◌≡◌, ◌==◌, ◌<◌, ℕ, List, length, position, IfSome, Some, None, map, option_map, if◌then◌else◌};
+ghost use Rattle.std.specs.Result.{result_ok};
+ghost use Rattle.std.specs.List.{list_all};
+ghost use Rattle.hex.specs.Hex.{decode_of};
+ghost use Rattle.trace_script.specs.Reading.{Reads};
+ghost use Rattle.trace_script.specs.Words.{cut_at, is_lower_hex, key_of, payload_of, put_or_delete, change_of, changes_of, number_of};
+
+use crate::fault::{LineFault, payload_fault};
+use crate::number::number;
+use bus_types::{Change, Key, Payload};
+use hex::FromHexError;
+use std::alloc::Global;
+
+/// The changes that the words spell, in order.
+pub(crate) fn changes(alloc: Global, words: &[&[u8]]) -> Result<Vec<Change>, LineFault>
+    ensures { Reads (λ changes. changes.items) result (changes_of (map (λ word. word.now) words.now)) }
+{
+    let mut changes = Vec::new(alloc);
+    for word in words {
+        changes.push(change(alloc, word)?)?;
+    }
+    Ok(changes)
+}
+
+/// The change that a word spells: `S/K=HEX` puts a row, and `S/K-` deletes it.
+#[tactic(auto, unfolding(crate::specs::Words::change_of))]
+pub(crate) fn change(alloc: Global, text: &[u8]) -> Result<Change, LineFault>
+    ensures { Reads (λ change. change) result (change_of text.now) }
+{
+    let (source, row) = cut(b'/', text).ok_or(LineFault::BadLine)?;
+    let source = source_number(source).ok_or(LineFault::BadLine)?;
+    match cut(b'=', row) {
+        Some((key, digits)) => put(alloc, source, key, digits),
+        None => delete(source, row).ok_or(LineFault::BadLine),
+    }
+}
+
+fn source_number(digits: &[u8]) -> Option<u16>
+    ensures { result ≡ number_of 65535 digits.now }
+{
+    let number = number(digits, 65535)?;
+    Some(number as u16)
+}
+
+#[tactic(auto, unfolding(crate::specs::Words::put_or_delete))]
+fn put(alloc: Global, source: u16, key: &[u8], digits: &[u8]) -> Result<Change, LineFault>
+    ensures { (rest : List ℕ) → Reads (λ change. change) result (put_or_delete source rest (Some (key.now, digits.now))) }
+{
+    let key = key_number(key).ok_or(LineFault::BadLine)?;
+    let payload = payload(alloc, digits)?;
+    Ok(Change {
+        source,
+        key,
+        put: Some(payload),
+    })
+}
+
+/// The change that deletes a row, where a `-` is the last byte of the row.
+#[tactic(auto, unfolding(crate::specs::Words::put_or_delete))]
+fn delete(source: u16, row: &[u8]) -> Option<Change>
+    ensures { result ≡ put_or_delete source row.now None }
+{
+    let (key, rest) = cut(b'-', row)?;
+    let key = key_number(key)?;
+    if !rest.is_empty() {
+        return None;
+    }
+    Some(Change {
+        source,
+        key,
+        put: None,
+    })
+}
+
+#[tactic(auto, unfolding(crate::specs::Words::key_of))]
+fn key_number(digits: &[u8]) -> Option<Key>
+    ensures { result ≡ key_of digits.now }
+{
+    let number = number(digits, u64::MAX)?;
+    Some(Key::Long(number))
+}
+
+/// What stands before and after the first such byte.
+#[tactic(auto, using(std::proofs::lemmas::List::take_rest))]
+fn cut(byte: u8, bytes: &[u8]) -> Option<(&[u8], &[u8])>
+    ensures { option_map (λ parts. (parts.0.now, parts.1.now)) result ≡ cut_at byte bytes.now }
+{
+    let at = place_of(byte, bytes)?;
+    Some((&bytes[..at], &bytes[at + 1..]))
+}
+
+fn place_of(byte: u8, bytes: &[u8]) -> Option<usize>
+    ensures place { result ≡ position (λ b. b == byte) bytes.now }
+    ensures within { IfSome result (λ place. place < length bytes.now) }
+{
+    bytes.iter().position(|b| *b == byte)
+}
+
+/// The payload of which each byte stands as two lower-case hex digits.
+#[tactic(auto, unfolding(crate::specs::Words::payload_of))]
+fn payload(alloc: Global, digits: &[u8]) -> Result<Payload, LineFault>
+    ensures { Reads (λ payload. payload) result (payload_of digits.now) }
+{
+    let bytes = hex_bytes(alloc, digits)?;
+    Payload::new(alloc, &bytes).map_err(payload_fault)
+}
+
+fn hex_bytes(alloc: Global, digits: &[u8]) -> Result<Vec<u8>, LineFault>
+    ensures { Reads (λ bytes. bytes.items) result (if list_all is_lower_hex digits.now then result_ok (decode_of digits.now) else None) }
+{
+    if !all_lower_hex(digits) {
+        return Err(LineFault::BadLine);
+    }
+    match hex::decode(alloc, digits) {
+        Ok(bytes) => Ok(bytes),
+        Err(FromHexError::OutOfMemory) => Err(LineFault::NoMemory),
+        Err(_) => Err(LineFault::BadLine),
+    }
+}
+
+fn all_lower_hex(digits: &[u8]) -> bool
+    ensures { result ≡ list_all is_lower_hex digits.now }
+{
+    digits
+        .iter()
+        .all(|b| matches!(*b, b'0'..=b'9' | b'a'..=b'f'))
+}

@@ -1,0 +1,49 @@
+ghost use Rattle.std.specs.Prelude.{◌≡◌};
+ghost use Rattle.trace_script.specs.declared.fault.LineFault.TheVariants as faults;
+ghost use Rattle.trace_script.specs.Reading.{fault_of};
+
+use bus_types::{NoMemory as OutOfMemory, PayloadFault};
+use std::alloc::{AllocError, AllocFailed};
+
+/// Why a line was not read.
+#[derive(Clone, Copy, Debug, PartialEq, Eq)]
+pub enum LineFault {
+    /// The text is outside the grammar of lines.
+    BadLine,
+    /// Memory ran out.
+    NoMemory,
+}
+
+impl From<AllocError> for LineFault {
+    ghost from_gives = { λ _ e. e ≡ faults.NoMemory };
+
+    fn from(_: AllocError) -> Self {
+        LineFault::NoMemory
+    }
+}
+
+impl<T: Drop> From<AllocFailed<T>> for LineFault {
+    ghost from_gives = { λ _ e. e ≡ faults.NoMemory };
+
+    fn from(_: AllocFailed<T>) -> Self {
+        LineFault::NoMemory
+    }
+}
+
+impl From<OutOfMemory> for LineFault {
+    ghost from_gives = { λ _ e. e ≡ faults.NoMemory };
+
+    fn from(_: OutOfMemory) -> Self {
+        LineFault::NoMemory
+    }
+}
+
+/// A payload that is too long makes its line a bad one.
+pub(crate) fn payload_fault(fault: PayloadFault) -> LineFault
+    ensures { result ≡ fault_of fault }
+{
+    match fault {
+        PayloadFault::TooLong => LineFault::BadLine,
+        PayloadFault::NoMemory => LineFault::NoMemory,
+    }
+}

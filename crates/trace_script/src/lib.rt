@@ -1,0 +1,20 @@
+//! The lines of scripts: their grammar, read exactly, and what a script means (`specs/`). It stands on `bus_types`.
+//! The layers above read each line by `read_line` and cite `played`, the text that a script prints and how it ends.
+#![tactic(auto)]
+
+mod change;
+mod fault;
+mod line;
+mod name;
+mod number;
+mod reading;
+mod rows;
+
+pub use fault::LineFault;
+pub use line::Line;
+pub use name::Name;
+pub use reading::read_line;
+pub use rows::worked_scripts;
+
+#[cfg(test)]
+mod tests;

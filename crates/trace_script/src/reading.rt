@@ -1,0 +1,168 @@
+ghost use Rattle.std.specs.Prelude.{◌≡◌, ◌==◌, ◌∷◌, false, bytes_eq, codes, IfOk, map};
+ghost use Rattle.std.specs.List.{list_any};
+ghost use Rattle.trace_script.specs.Reading.{Reads};
+ghost use Rattle.trace_script.specs.Words.{words_of, name_of};
+ghost use Rattle.trace_script.specs.Lines.{is_blank, consumer_of, commit_of, feed_of, poll_of, show_of, words_line, line_of};
+
+use crate::change::changes;
+use crate::fault::LineFault;
+use crate::line::Line;
+use crate::name::Name;
+use crate::number::number;
+use bus_types::Changes;
+use std::alloc::{AllocError, Global};
+
+/// The line that a text spells, without its LF. `BadLine` comes exactly where the text is no line.
+#[tactic(auto, unfolding(crate::specs::Lines::line_of))]
+pub fn read_line(alloc: Global, text: &[u8]) -> Result<Line, LineFault>
+    ensures exact { Reads (λ line. line) result (line_of text.now) }
+{
+    if has_carriage_return(text) {
+        return Err(LineFault::BadLine);
+    }
+    if is_blank(text) {
+        return Ok(Line::Blank);
+    }
+    let words = words(alloc, text)?;
+    line(alloc, &words)
+}
+
+fn has_carriage_return(text: &[u8]) -> bool
+    ensures { result ≡ list_any (λ b. b == 13) text.now }
+{
+    text.iter().any(|b| *b == b'\r')
+}
+
+/// Whether the text is empty or a comment.
+fn is_blank(text: &[u8]) -> bool
+    ensures { result ≡ is_blank text.now }
+{
+    match text {
+        [] => true,
+        [first, ..] => *first == b'#',
+    }
+}
+
+/// The parts of the text between spaces, of which an empty one is no word.
+fn words(alloc: Global, text: &[u8]) -> Result<Vec<&[u8]>, AllocError>
+    ensures { IfOk result (λ words. map (λ word. word.now) words.items ≡ words_of text.now) }
+{
+    text.split(|b| *b == b' ').collect(alloc)
+}
+
+/// The line of these words, by the first one.
+#[tactic(auto, unfolding(crate::specs::Lines::words_line))]
+fn line(alloc: Global, words: &[&[u8]]) -> Result<Line, LineFault>
+    ensures { Reads (λ line. line) result (words_line (map (λ word. word.now) words.now)) }
+{
+    let [word, words @ ..] = words else {
+        return Err(LineFault::BadLine);
+    };
+    if *word == b"commit".as_slice() {
+        return commit(alloc, words);
+    }
+    plain_line(word, words).ok_or(LineFault::BadLine)
+}
+
+/// The line of these words, where it is none of changes.
+#[tactic(auto, unfolding(crate::specs::Lines::words_line))]
+fn plain_line(word: &[u8], words: &[&[u8]]) -> Option<Line>
+    requires { bytes_eq word.now (codes "commit") ≡ false }
+    ensures { result ≡ words_line (word.now ∷ map (λ word. word.now) words.now) }
+{
+    if word == b"feed".as_slice() {
+        feed(words)
+    } else if word == b"poll".as_slice() {
+        poll(words)
+    } else if word == b"show".as_slice() {
+        show(words)
+    } else if word == b"consumer".as_slice() {
+        consumer(words)
+    } else {
+        None
+    }
+}
+
+/// `commit SCN CHANGE ..`
+#[tactic(auto, unfolding(crate::specs::Lines::commit_of))]
+fn commit(alloc: Global, words: &[&[u8]]) -> Result<Line, LineFault>
+    ensures { Reads (λ line. line) result (commit_of (map (λ word. word.now) words.now)) }
+{
+    let [scn, words @ ..] = words else {
+        return Err(LineFault::BadLine);
+    };
+    if words.is_empty() {
+        return Err(LineFault::BadLine);
+    }
+    let scn = number(scn, u64::MAX).ok_or(LineFault::BadLine)?;
+    let changes = Changes::new(changes(alloc, words)?);
+    Ok(Line::Commit { scn, changes })
+}
+
+/// `consumer NAME all`
+#[tactic(auto, unfolding(crate::specs::Lines::consumer_of))]
+fn consumer(words: &[&[u8]]) -> Option<Line>
+    ensures { result ≡ consumer_of (map (λ word. word.now) words.now) }
+{
+    let [name, filter] = words else {
+        return None;
+    };
+    let name = known_name(name)?;
+    if *filter == b"all".as_slice() {
+        Some(Line::Consumer { name })
+    } else {
+        None
+    }
+}
+
+/// `feed N`
+#[tactic(auto, unfolding(crate::specs::Lines::feed_of))]
+fn feed(words: &[&[u8]]) -> Option<Line>
+    ensures { result ≡ feed_of (map (λ word. word.now) words.now) }
+{
+    let [count] = words else {
+        return None;
+    };
+    let count = number(count, 1_000_000)?;
+    if count == 0 {
+        return None;
+    }
+    Some(Line::Feed(count))
+}
+
+/// `poll NAME MAX`
+#[tactic(auto, unfolding(crate::specs::Lines::poll_of))]
+fn poll(words: &[&[u8]]) -> Option<Line>
+    ensures { result ≡ poll_of (map (λ word. word.now) words.now) }
+{
+    let [name, max] = words else {
+        return None;
+    };
+    let name = known_name(name)?;
+    let max = number(max, 16_777_216)?;
+    if max == 0 {
+        return None;
+    }
+    Some(Line::Poll {
+        name,
+        max: max as u32,
+    })
+}
+
+/// `show NAME`
+#[tactic(auto, unfolding(crate::specs::Lines::show_of))]
+fn show(words: &[&[u8]]) -> Option<Line>
+    ensures { result ≡ show_of (map (λ word. word.now) words.now) }
+{
+    let [name] = words else {
+        return None;
+    };
+    Some(Line::Show(known_name(name)?))
+}
+
+#[tactic(auto, unfolding(crate::specs::Words::name_of))]
+fn known_name(word: &[u8]) -> Option<Name>
+    ensures { result ≡ name_of word.now }
+{
+    Name::new(word)
+}
