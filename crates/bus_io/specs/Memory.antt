@@ -1,5 +1,5 @@
 -- What the forms in memory are to a contract.
-use Rattle.std.specs.Prelude.{ℕ, ◌+◌, ◌-◌, ◌^◌, min, ◌≤◌, ◌==◌, Bool, List, [], length}
+use Rattle.std.specs.Prelude.{ℕ, ◌+◌, ◌-◌, ◌^◌, min, ◌==◌, nat_lt, Bool, ◌&&◌, ◌||◌, if◌then◌else◌, List, [], ◌++◌, length, take, drop}
 use Rattle.std.specs.List.{list_any}
 
 -- a count that stops at its type's end
@@ -30,3 +30,23 @@ new_writer room fails = record { bytes = []; room = room; fails = fails; calls =
 -- whether this call is to fail
 abbrev pub is_listed : List ℕ → ℕ → Bool
 is_listed fails call = list_any (λ f. f == call) fails
+
+-- what a read with room for so many bytes leaves
+abbrev pub after_read : Reader → ℕ → Reader
+after_read s size = if is_listed s.fails s.calls
+    then record s { calls = next_count s.calls; faults = next_count s.faults }
+    else record s { left = drop (min size (length s.left)) s.left; calls = next_count s.calls }
+
+-- the room that is left
+abbrev pub room_left : Writer → ℕ
+room_left s = s.room - length s.bytes
+
+-- whether a write of these bytes is to fail
+abbrev pub is_refused : Writer → List ℕ → Bool
+is_refused s bytes = is_listed s.fails s.calls || (nat_lt 0 (length bytes) && room_left s == 0)
+
+-- what a write of these bytes leaves
+abbrev pub after_write : Writer → List ℕ → Writer
+after_write s bytes = if is_refused s bytes
+    then record s { calls = next_count s.calls; faults = next_count s.faults }
+    else record s { bytes = s.bytes ++ take (min (length bytes) (room_left s)) bytes; calls = next_count s.calls }

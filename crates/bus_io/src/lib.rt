@@ -14,7 +14,7 @@ pub use memory::{MemorySink, MemorySource};
 pub use read::{ReadFault, read_all};
 pub use sink::Sink;
 pub use source::Source;
-pub use standard::{StandardInput, StandardOutput};
+pub use standard::{Reading, Writing};
 pub use write::{WriteFault, write_all};
 
 #[cfg(test)]

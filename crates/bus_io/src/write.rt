@@ -13,6 +13,7 @@ pub struct WriteFault {
 }
 
 /// Writes all the bytes. A fault comes only where the sink's count rose, and tells how many bytes went out before it.
+#[tactic(auto, using(crate::proofs::Known::known))]
 pub fn write_all<W: Sink>(out: &mut W, bytes: &[u8]) -> Result<(), WriteFault>
     ensures ok { OnOk result (Appends (W.written out.old) (W.written out.new) bytes.now) }
     ensures part { IfErr result (λ fault. Appends (W.written out.old) (W.written out.new) (take fault.written bytes.now)) }

@@ -3,6 +3,7 @@
 //! bus. The layers above make windows through `Window::new` and `Window::cut` alone, so each is within its limits.
 #![tactic(auto)]
 
+mod accepts;
 mod change;
 mod changes;
 mod fault;
@@ -12,6 +13,7 @@ mod payload;
 mod timeline;
 mod window;
 
+pub use accepts::{Accepts, Everything};
 pub use change::{Change, Key, RowName};
 pub use changes::Changes;
 pub use fault::{Failed, NoMemory};

@@ -1,3 +1,9 @@
-pub mod Numbers
-pub mod Names
 pub mod Changes
+pub mod Steps
+pub mod Numbers
+pub mod Cuts
+pub mod HexText
+pub mod ChangeTexts
+pub mod WordTexts
+pub mod LineTexts
+pub mod LineLaws

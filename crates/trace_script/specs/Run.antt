@@ -1,5 +1,6 @@
 -- What a script means: the text that it prints, and how it ends.
-use Rattle.std.specs.Prelude.{◌≡◌, ℕ, ◌+◌, ◌==◌, ◌||◌, nat_lt, nat_le, if◌then◌else◌, Bool, List, [], ◌∷◌, ◌++◌, length, Option, Some, None, option_and_then}
+use Rattle.std.specs.Prelude.{◌≡◌, ℕ, ◌+◌, ◌==◌, ◌||◌, nat_lt, nat_le, if◌then◌else◌, Bool, true, false, List, [], ◌∷◌, ◌++◌, length, Option, Some, None, option_and_then}
+use Rattle.std.specs.List.{list_any, AllByRecursion}
 use Rattle.bus_types.specs.Script.{State, Step, start, consumer_step, commit_step, feed_step, poll_step, show_step}
 use Rattle.trace_script.specs.declared.line.Line.{Line}
 use Rattle.trace_script.specs.declared.line.Line.TheVariants.{Blank, Consumer, Commit, Feed, Poll, Show}
@@ -33,6 +34,23 @@ lines_from line (b ∷ bs) = if b == 10 then (record { text = line; size = lengt
 
 abbrev pub lines_of : List ℕ → List RawLine
 lines_of bytes = lines_from [] bytes
+
+-- bytes without a LF
+abbrev pub IsPart : List ℕ → Type 0
+IsPart bytes = AllByRecursion (λ b. (b == 10) ≡ false) bytes
+
+abbrev pub has_end : List ℕ → Bool
+has_end bytes = list_any (λ b. b == 10) bytes
+
+-- bytes that end with a LF, or none
+abbrev pub IsWhole : List ℕ → Type 0
+IsWhole [] = Unit {0}
+IsWhole (b ∷ bs) = (has_end (b ∷ bs) ≡ true) × IsWhole bs
+
+-- the whole lines of an input of which this much has come: the bytes up to the last LF
+abbrev pub whole_part : List ℕ → List ℕ
+whole_part [] = []
+whole_part (b ∷ bs) = if has_end (b ∷ bs) then b ∷ whole_part bs else []
 
 -- ---- the limits of a script
 

@@ -1,6 +1,8 @@
-ghost use Rattle.std.specs.Prelude.{◌≡◌, ◌==◌, ◌∷◌, false, bytes_eq, codes, IfOk, map};
+ghost use Rattle.std.specs.Prelude.{◌≡◌, ◌==◌, ◌∷◌, false, bytes_eq, codes, IfOk, IsErrOf, map};
 ghost use Rattle.std.specs.List.{list_any};
 ghost use Rattle.trace_script.specs.Reading.{Reads};
+ghost use Rattle.trace_script.specs.declared.line.Line.{Line};
+ghost use Rattle.trace_script.specs.Spelling.{Spells};
 ghost use Rattle.trace_script.specs.Words.{words_of, name_of};
 ghost use Rattle.trace_script.specs.Lines.{is_blank, consumer_of, commit_of, feed_of, poll_of, show_of, words_line, line_of};
 
@@ -12,10 +14,26 @@ use crate::number::number;
 use bus_types::Changes;
 use std::alloc::{AllocError, Global};
 
+/// The most commits that one line feeds.
+const MAX_FEED: u64 = 1_000_000;
+
+/// The most bytes that a line may ask a reply to have.
+const MAX_REPLY: u64 = 16_777_216;
+
 /// The line that a text spells, without its LF. `BadLine` comes exactly where the text is no line.
-#[tactic(auto, unfolding(crate::specs::Lines::line_of))]
 pub fn read_line(alloc: Global, text: &[u8]) -> Result<Line, LineFault>
     ensures exact { Reads (λ line. line) result (line_of text.now) }
+
+    // What is read is spelled so, and what is bad is spelled by no line.
+    ensures found { IfOk result (λ line. Spells text.now line) }
+    ensures bad { IsErrOf result LineFault.BadLine → (line : Line) → Spells text.now line → ⊥ }
+{
+    text_line(alloc, text)
+}
+
+#[tactic(auto, unfolding(crate::specs::Lines::line_of))]
+fn text_line(alloc: Global, text: &[u8]) -> Result<Line, LineFault>
+    ensures { Reads (λ line. line) result (line_of text.now) }
 {
     if has_carriage_return(text) {
         return Err(LineFault::BadLine);
@@ -24,7 +42,7 @@ pub fn read_line(alloc: Global, text: &[u8]) -> Result<Line, LineFault>
         return Ok(Line::Blank);
     }
     let words = words(alloc, text)?;
-    line(alloc, &words)
+    words_line(alloc, &words)
 }
 
 fn has_carriage_return(text: &[u8]) -> bool
@@ -52,7 +70,7 @@ fn words(alloc: Global, text: &[u8]) -> Result<Vec<&[u8]>, AllocError>
 
 /// The line of these words, by the first one.
 #[tactic(auto, unfolding(crate::specs::Lines::words_line))]
-fn line(alloc: Global, words: &[&[u8]]) -> Result<Line, LineFault>
+fn words_line(alloc: Global, words: &[&[u8]]) -> Result<Line, LineFault>
     ensures { Reads (λ line. line) result (words_line (map (λ word. word.now) words.now)) }
 {
     let [word, words @ ..] = words else {
@@ -123,7 +141,7 @@ fn feed(words: &[&[u8]]) -> Option<Line>
     let [count] = words else {
         return None;
     };
-    let count = number(count, 1_000_000)?;
+    let count = number(count, MAX_FEED)?;
     if count == 0 {
         return None;
     }
@@ -139,7 +157,7 @@ fn poll(words: &[&[u8]]) -> Option<Line>
         return None;
     };
     let name = known_name(name)?;
-    let max = number(max, 16_777_216)?;
+    let max = number(max, MAX_REPLY)?;
     if max == 0 {
         return None;
     }

@@ -1,0 +1,223 @@
+ghost use Rattle.std.specs.Prelude.{◌≡◌, ◌+◌, ◌≤◌, ◌<◌, ◌↔◌, ◌&&◌, ◌||◌, ◌==◌, ◌++◌, Some, length, take, min, nat_lt, IsErr, IsTrue, IfOk, vec_len, vec_capacity};
+ghost use Rattle.std.specs.Io.{ReadsAtMost, WritesAtMost};
+ghost use Rattle.std.specs.Io.KnownBytes.{ReadConsumes, WriteAppends};
+ghost use Rattle.bus_types.specs.Causes.{HasCause};
+ghost use Rattle.bus_io.specs.Bytes.{TakesSome};
+ghost use Rattle.bus_io.specs.Memory.{next_count, new_reader, new_writer, is_listed, is_refused, room_left, after_read, after_write};
+
+use crate::sink::Sink;
+use crate::source::Source;
+use bus_types::{Failed, NoMemory};
+use std::alloc::Global;
+use std::marker::Model;
+
+/// The calls that are to fail, by their numbers from 0, and how many calls were made and have failed. Both counts
+/// stop at their type's end.
+#[derive(Debug, Drop)]
+struct Plan {
+    fails: Vec<u64>,
+    calls: u64,
+    faults: u64,
+}
+
+impl Plan {
+    fn new(alloc: Global, fails: &[u64]) -> Result<Plan, NoMemory>
+        ensures fails { IfOk result (λ plan. plan.fails.items ≡ fails.now) }
+        ensures calls { IfOk result (λ plan. plan.calls ≡ 0) }
+        ensures faults { IfOk result (λ plan. plan.faults ≡ 0) }
+    {
+        Ok(Plan {
+            fails: Vec::from_slice(alloc, fails)?,
+            calls: 0,
+            faults: 0,
+        })
+    }
+
+    /// Counts a call, and answers whether it is to fail.
+    fn next_fails(&mut self) -> bool
+        ensures listed { result ≡ is_listed self.old.fails.items self.old.calls }
+        ensures calls { self.new.calls ≡ next_count self.old.calls }
+        ensures faults { self.new.faults ≡ self.old.faults }
+        ensures fails { self.new.fails.items ≡ self.old.fails.items }
+    {
+        let call = self.calls;
+        self.calls = call.saturating_add(1);
+        self.fails.contains(&call)
+    }
+
+    /// Counts a fault.
+    fn fail(&mut self) -> Failed
+        ensures faults { self.new.faults ≡ next_count self.old.faults }
+        ensures calls { self.new.calls ≡ self.old.calls }
+        ensures fails { self.new.fails.items ≡ self.old.fails.items }
+    {
+        self.faults = self.faults.saturating_add(1);
+        Failed
+    }
+}
+
+/// A source in memory, which gives its bytes and fails at the calls that it was told.
+#[derive(Debug, Drop)]
+pub struct MemorySource {
+    bytes: Vec<u8>,
+    given: usize,
+    plan: Plan,
+}
+
+impl Model for MemorySource {
+    ghost use Rattle.std.specs.Prelude.{◌≤◌, drop, length};
+    ghost use Rattle.bus_io.specs.Memory.{Reader};
+
+    ghost Value = { Reader };
+
+    ghost view = { λ s. record {
+      left = drop s.given s.bytes.items;
+      fails = s.plan.fails.items;
+      calls = s.plan.calls;
+      faults = s.plan.faults;
+    } };
+
+    ghost invariant = { λ s. s.given ≤ length s.bytes.items };
+}
+
+impl MemorySource {
+    /// A source that gives these bytes, and fails at the calls whose numbers, counted from 0, are listed.
+    pub fn new(alloc: Global, bytes: &[u8], fails: &[u64]) -> Result<MemorySource, NoMemory>
+        ensures { IfOk result (λ source. source ≡ new_reader bytes.now fails.now) }
+    {
+        Ok(MemorySource {
+            bytes: Vec::from_slice(alloc, bytes)?,
+            given: 0,
+            plan: Plan::new(alloc, fails)?,
+        })
+    }
+
+    /// The bytes that it has not given yet.
+    fn left(&self) -> &[u8]
+        ensures { result.now ≡ self.now.left }
+    {
+        &self.bytes[self.given..]
+    }
+}
+
+/// Copies as long a front of `from` as `to` has room for to the front of `to`, and answers how long it is.
+fn copy_front(from: &[u8], to: &mut [u8]) -> usize
+    ensures count { result ≡ min (length to.old) (length from.now) }
+    ensures front { take result to.new ≡ take result from.now }
+{
+    let count = to.len().min(from.len());
+    to[..count].copy_from_slice(&from[..count]);
+    count
+}
+
+impl Source for MemorySource {
+    ghost left = { λ s. Some s.left };
+
+    ghost faults = { λ s. s.faults };
+
+    /// Gives as many bytes as there are and `buf` has room for. `Failed` comes exactly at the listed calls.
+    fn read(&mut self, buf: &mut [u8]) -> Result<usize, Failed>
+        ensures bound { ReadsAtMost result buf.new }
+        ensures bytes { ReadConsumes (Some self.old.left) (Some self.new.left) result buf.new }
+        ensures cause { HasCause self.old.faults self.new.faults result }
+        ensures exact { IsErr result ↔ IsTrue (is_listed self.old.fails self.old.calls) }
+        ensures count { IfOk result (λ n. n ≡ min (length buf.old) (length self.old.left)) }
+        ensures counted { self.new ≡ after_read self.old (length buf.old) }
+    {
+        if self.plan.next_fails() {
+            return Err(self.plan.fail());
+        }
+        let count = copy_front(self.left(), buf);
+        self.given += count;
+        Ok(count)
+    }
+}
+
+/// A sink in memory, which takes bytes as long as it has room and fails at the calls that it was told.
+#[derive(Debug, Drop)]
+pub struct MemorySink {
+    bytes: Vec<u8>,
+    room: u64,
+    plan: Plan,
+}
+
+impl Model for MemorySink {
+    ghost use Rattle.std.specs.Prelude.{◌≤◌, length, vec_capacity};
+    ghost use Rattle.bus_io.specs.Memory.{Writer};
+
+    ghost Value = { Writer };
+
+    ghost view = { λ s. record {
+      bytes = s.bytes.items;
+      room = s.room;
+      fails = s.plan.fails.items;
+      calls = s.plan.calls;
+      faults = s.plan.faults;
+    } };
+
+    ghost invariant = { λ s. (length s.bytes.items ≤ s.room) × (s.room ≤ vec_capacity s.bytes) };
+}
+
+impl MemorySink {
+    /// A sink that takes `room` bytes in all, and fails at the calls whose numbers, counted from 0, are listed. The
+    /// memory for the bytes is taken here, and no write takes any. `NoMemory` comes where there is not so much.
+    pub fn new(alloc: Global, room: u64, fails: &[u64]) -> Result<MemorySink, NoMemory>
+        ensures { IfOk result (λ sink. sink ≡ new_writer room fails.now) }
+    {
+        Ok(MemorySink {
+            bytes: Vec::with_capacity(alloc, room as usize)?,
+            room,
+            plan: Plan::new(alloc, fails)?,
+        })
+    }
+
+    /// The bytes that were written to it.
+    pub fn bytes(&self) -> &[u8]
+        ensures { result.now ≡ self.now.bytes }
+    {
+        &self.bytes
+    }
+}
+
+/// Whether a write of `bytes` fails where `left` is the room that is left.
+fn is_refused(listed: bool, left: usize, bytes: &[u8]) -> bool
+    ensures { result ≡ (listed || (nat_lt 0 (length bytes.now) && left == 0)) }
+{
+    listed || (!bytes.is_empty() && left == 0)
+}
+
+/// Appends bytes for which there is room.
+fn append(to: &mut Vec<u8>, bytes: &[u8])
+    requires { vec_len to.old + length bytes.now ≤ vec_capacity to.old }
+    ensures items { to.new.items ≡ to.old.items ++ bytes.now }
+    ensures capacity { vec_capacity to.old ≤ vec_capacity to.new }
+{
+    to.extend_from_slice(bytes).unwrap();
+}
+
+impl Sink for MemorySink {
+    ghost written = { λ s. Some s.bytes };
+
+    ghost faults = { λ s. s.faults };
+
+    /// Takes as many of the bytes as still fit. `Failed` comes exactly at the listed calls, and where there are
+    /// bytes and no room is left.
+    fn write(&mut self, bytes: &[u8]) -> Result<usize, Failed>
+        ensures bound { WritesAtMost result bytes.now }
+        ensures some { TakesSome result bytes.now }
+        ensures bytes { WriteAppends (Some self.old.bytes) (Some self.new.bytes) result bytes.now }
+        ensures cause { HasCause self.old.faults self.new.faults result }
+        ensures exact { IsErr result ↔ IsTrue (is_refused self.old bytes.now) }
+        ensures count { IfOk result (λ n. n ≡ min (length bytes.now) (room_left self.old)) }
+        ensures counted { self.new ≡ after_write self.old bytes.now }
+    {
+        let listed = self.plan.next_fails();
+        let left = self.room as usize - self.bytes.len();
+        if is_refused(listed, left, bytes) {
+            return Err(self.plan.fail());
+        }
+        let count = left.min(bytes.len());
+        append(&mut self.bytes, &bytes[..count]);
+        Ok(count)
+    }
+}

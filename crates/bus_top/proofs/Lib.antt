@@ -1,0 +1,5 @@
+pub mod Following
+pub mod Sound
+pub mod Streams
+pub mod Pieces
+pub mod Turns

@@ -1,0 +1,183 @@
+-- Sessions: lines, ends of lines and pieces that are taken.
+use Rattle.std.proofs.Common.{◌≡◌, ℕ, suc, eqb, get_or, ◌+◌, ◌<◌, ◌≤◌, Bool, true, false, List, [], ◌∷◌, ◌++◌, Option, Some, None, Result, Ok, Err, length, take, drop, ◌-◌, refl, sym, ap, ◌∙◌, subst, append_assoc, append-nil, arith}
+use Rattle.std.specs.Prelude.{Vec}
+use Rattle.std.specs.Global.{Global}
+use Rattle.std.specs.Io.{StartsWith}
+use Rattle.std.proofs.lemmas.Bool.{eqb-true, eqb-false}
+use Rattle.std.proofs.lemmas.List.{length-append, length-take, get_or-take, drop_more, take_rest, take_all, take-append-drop}
+use Rattle.memchr.specs.Find.{IsFirstByte, is_byte}
+use Rattle.trace_script.specs.Run.{RawLine, lines_of, IsPart, IsWhole, Played, Ending, before, ended, played}
+use Rattle.trace_script.specs.Run.Ending.{Finished, BadAt, TooLongAt}
+use Rattle.trace_script.proofs.LineLaws.{before-before, lines_of-line, lines_of-last, long_part, IsWhole-line, IsWhole-append, IsPart-append}
+use Rattle.bus_top.specs.declared.bus.Bus.{Bus}
+use Rattle.bus_top.specs.declared.session.Place.{Place}
+use Rattle.bus_top.specs.declared.session.Session.{Session}
+use Rattle.bus_top.specs.declared.session.Stop.{Stop}
+use Rattle.bus_top.specs.declared.session.Stop.TheVariants.{BadLine, TooLong, NoMemory}
+use Rattle.bus_top.specs.Bus.{state_of, IsSound}
+use Rattle.bus_top.specs.Session.{SameRun, Stops, run_lines, run_bytes, TakesLine, IsWithin, IsSession, TookSome, is_long, Holds, TakesEnd, Takes, Finishes}
+use Rattle.bus_top.proofs.Streams.{before-ended, no_line, starts}
+
+-- a run that stops, seen from another text and other runs that are the same
+pub stops_by : {X Y : Type 0} (stop : Stop) (text other : List ℕ) (plays : X → Played) (after : Y → Played) (to : Y → X) → ((y : Y) → after y ≡ plays (to y)) → other ≡ text → Stops stop text plays → Stops stop other after
+stops_by (BadLine n) text other plays after to e t h = λ y. e y ∙ h (to y) ∙ ap (λ (l : List ℕ). record { text = l; ending = BadAt n }) (sym t)
+stops_by (TooLong n) text other plays after to e t h = λ y. e y ∙ h (to y) ∙ ap (λ (l : List ℕ). record { text = l; ending = TooLongAt n }) (sym t)
+stops_by NoMemory text other plays after to e t h = λ y. subst (λ (p : Played). StartsWith p.text other) (sym (e y)) (subst (λ (l : List ℕ). StartsWith (plays (to y)).text l) (sym t) (h (to y)))
+
+-- bytes that begin with a line and its LF
+line_run : (b : Bus) (p : Place) (line rest : List ℕ) → IsPart line → run_bytes b p (line ++ 10 ∷ rest) ≡ run_lines b p ((record { text = line; size = length line + 1 }) ∷ lines_of rest)
+line_run b p line rest part = ap (run_lines b p) (lines_of-line line rest part)
+
+-- a line that was taken, as a line whose text had come
+pub takes_end : (result : Result Unit Stop) (line : List ℕ) (s : Session) (text : List ℕ) (b : Bus) (p : Place) (pending : Vec ℕ Global) (text' : List ℕ) → IsPart line → pending.items ≡ [] → TakesLine result (record { text = line; size = length line + 1 }) s.bus s.place text b p text' → TakesEnd result line s text (record { bus = b; place = p; pending = pending }) text'
+takes_end (Ok u) line s text b p pending text' part none h =
+    let used = h.2 in
+    let within = h.1.used in
+    let empty : length pending.items ≡ 0 = ap (λ (l : List ℕ). length l) none in
+    (
+      record { sound = h.0; part = subst IsPart (sym none) tt; within = record { count = h.1.count; used = omega arith } },
+      none,
+      omega arith,
+      λ rest. h.3 (lines_of rest) ∙ ap (before text) (sym (line_run s.bus s.place line rest part)),
+    )
+takes_end (Err stop) line s text b p pending text' part none h =
+    stops_by stop text text' (λ ls. before text (run_lines s.bus s.place ((record { text = line; size = length line + 1 }) ∷ ls))) (λ rest. before text (run_bytes s.bus s.place (line ++ 10 ∷ rest))) lines_of (λ rest. ap (before text) (line_run s.bus s.place line rest part)) h.0 h.1
+
+-- a part of a line that is too long already, or that finds no memory, stops whatever follows it
+pub holds_err : (stop : Stop) (s : Session) (text part : List ℕ) (pending : List ℕ) → IsPart (s.pending.items ++ part) → Holds (Err stop) s.place s.pending.items part pending → Stops stop text (λ (rest : List ℕ). before text (run_bytes s.bus s.place ((s.pending.items ++ part) ++ rest)))
+holds_err (BadLine n) s text part pending p h = absurd h
+holds_err (TooLong n) s text part pending p h =
+    λ rest. ap (before text) (long_part (state_of s.bus) s.place.count s.place.used (s.pending.items ++ part) rest p h.1 h.2) ∙ before-ended text (TooLongAt (s.place.count + 1)) ∙ ap (λ (n : ℕ). record { text = text; ending = TooLongAt n }) (sym h.0)
+holds_err NoMemory s text part pending p h = λ rest. starts text _
+
+-- the same before its LF
+pub holds_err_end : (stop : Stop) (s : Session) (text part : List ℕ) (pending : List ℕ) → IsPart (s.pending.items ++ part) → Holds (Err stop) s.place s.pending.items part pending → Stops stop text (λ (rest : List ℕ). before text (run_bytes s.bus s.place ((s.pending.items ++ part) ++ 10 ∷ rest)))
+holds_err_end stop s text part pending p h =
+    stops_by stop text text (λ (rest : List ℕ). before text (run_bytes s.bus s.place ((s.pending.items ++ part) ++ rest))) (λ (rest : List ℕ). before text (run_bytes s.bus s.place ((s.pending.items ++ part) ++ 10 ∷ rest))) (λ rest. 10 ∷ rest) (λ rest. refl) refl (holds_err stop s text part pending p h)
+
+takes_err : (stop : Stop) (line : List ℕ) (s : Session) (text : List ℕ) (b : Bus) (p : Place) (text' : List ℕ) → IsPart line → TakesLine (Err stop) (record { text = line; size = length line + 1 }) s.bus s.place text b p text' → Stops stop text' (λ (rest : List ℕ). before text (run_bytes s.bus s.place (line ++ 10 ∷ rest)))
+takes_err stop line s text b p text' part h =
+    stops_by stop text text' (λ ls. before text (run_lines s.bus s.place ((record { text = line; size = length line + 1 }) ∷ ls))) (λ rest. before text (run_bytes s.bus s.place (line ++ 10 ∷ rest))) lines_of (λ rest. ap (before text) (line_run s.bus s.place line rest part)) h.0 h.1
+
+-- a line that was joined stops the run
+pub joined_err : (stop : Stop) (seen line : List ℕ) (s : Session) (text : List ℕ) (b : Bus) (p : Place) (text' : List ℕ) → seen ≡ line → IsPart line → TakesLine (Err stop) (record { text = seen; size = length seen + 1 }) s.bus s.place text b p text' → Stops stop text' (λ (rest : List ℕ). before text (run_bytes s.bus s.place (line ++ 10 ∷ rest)))
+joined_err stop seen line s text b p text' e part h =
+    takes_err stop line s text b p text' part (subst (λ (l : List ℕ). TakesLine (Err stop) (record { text = l; size = length l + 1 }) s.bus s.place text b p text') e h)
+
+-- a line that was joined was taken
+pub joined_ok : (u : Unit {0}) (seen line : List ℕ) (s : Session) (text : List ℕ) (b : Bus) (p : Place) (pending : Vec ℕ Global) (text' : List ℕ) → seen ≡ line → IsPart line → pending.items ≡ [] → TakesLine (Ok u) (record { text = seen; size = length seen + 1 }) s.bus s.place text b p text' → TakesEnd (Ok u) line s text (record { bus = b; place = p; pending = pending }) text'
+joined_ok u seen line s text b p pending text' e part none h =
+    takes_end (Ok u) line s text b p pending text' part none (subst (λ (l : List ℕ). TakesLine (Ok u) (record { text = l; size = length l + 1 }) s.bus s.place text b p text') e h)
+
+suc_is : (n : ℕ) → suc n ≡ 1 + n
+suc_is n = omega arith
+
+-- before the first line
+pub took_none : (s : Session) (piece text : List ℕ) → IsSession s → TookSome (s.pending.items ++ piece) piece s text s text
+took_none s piece text h =
+    let both = length-append s.pending.items piece in
+    record { whole = []; parts = refl; lines = tt; session = h; size = omega arith; same = λ x. refl }
+
+-- after one more line
+pub took_more : (u : Unit {0}) (come rest line more : List ℕ) (s : Session) (text : List ℕ) (s1 : Session) (text1 : List ℕ) (s2 : Session) (text2 : List ℕ) → TookSome come rest s text s1 text1 → IsPart line → rest ≡ line ++ 10 ∷ more → TakesEnd (Ok u) (s1.pending.items ++ line) s1 text1 s2 text2 → TookSome come more s text s2 text2
+took_more u come rest line more s text s1 text1 s2 text2 h part e t =
+    let ended : List ℕ = (s1.pending.items ++ line) ++ 10 ∷ [] in
+    let regroup : (x : List ℕ) → ended ++ x ≡ (s1.pending.items ++ line) ++ 10 ∷ x = λ x. append_assoc (s1.pending.items ++ line) (10 ∷ []) x in
+    let rest-is : s1.pending.items ++ rest ≡ ended ++ more = ap (λ (l : List ℕ). s1.pending.items ++ l) e ∙ sym (append_assoc s1.pending.items line (10 ∷ more)) ∙ sym (regroup more) in
+    let used = t.2 in
+    let size = h.size in
+    let one = length-append s1.pending.items line in
+    let two : length rest ≡ length line + (1 + length more) = ap (λ (l : List ℕ). length l) e ∙ length-append line (10 ∷ more) ∙ ap (λ (n : ℕ). length line + n) (suc_is (length more)) in
+    let none : length s2.pending.items ≡ 0 = ap (λ (l : List ℕ). length l) t.1 in
+    record {
+      whole = h.whole ++ ended;
+      parts = h.parts ∙ ap (λ (l : List ℕ). h.whole ++ l) rest-is ∙ sym (append_assoc h.whole ended more) ∙ ap (λ (l : List ℕ). (h.whole ++ ended) ++ (l ++ more)) (sym t.1);
+      lines = IsWhole-append h.whole ended h.lines (IsWhole-line (s1.pending.items ++ line));
+      session = t.0;
+      size = omega arith;
+      same = λ x. t.3 x ∙ h.same ((s1.pending.items ++ line) ++ 10 ∷ x) ∙ ap (λ (l : List ℕ). before text (run_bytes s.bus s.place l)) (ap (λ (l : List ℕ). h.whole ++ l) (sym (regroup x)) ∙ sym (append_assoc h.whole ended x));
+    }
+
+-- a line stops the run
+pub took_err : (stop : Stop) (come rest line more : List ℕ) (s : Session) (text : List ℕ) (s1 : Session) (text1 text2 : List ℕ) → TookSome come rest s text s1 text1 → rest ≡ line ++ 10 ∷ more → Stops stop text2 (λ (r : List ℕ). before text1 (run_bytes s1.bus s1.place ((s1.pending.items ++ line) ++ 10 ∷ r))) → Stops stop text2 (λ (r : List ℕ). before text (run_bytes s.bus s.place (come ++ r)))
+took_err stop come rest line more s text s1 text1 text2 h e t =
+    let whole-is : (r : List ℕ) → come ++ r ≡ h.whole ++ ((s1.pending.items ++ line) ++ 10 ∷ (more ++ r)) = λ r.
+        ap (λ (l : List ℕ). l ++ r) h.parts ∙ append_assoc h.whole (s1.pending.items ++ rest) r
+        ∙ ap (λ (l : List ℕ). h.whole ++ ((s1.pending.items ++ l) ++ r)) e
+        ∙ ap (λ (l : List ℕ). h.whole ++ (l ++ r)) (sym (append_assoc s1.pending.items line (10 ∷ more)))
+        ∙ ap (λ (l : List ℕ). h.whole ++ l) (append_assoc (s1.pending.items ++ line) (10 ∷ more) r) in
+    stops_by stop text2 text2 (λ (r : List ℕ). before text1 (run_bytes s1.bus s1.place ((s1.pending.items ++ line) ++ 10 ∷ r))) (λ (r : List ℕ). before text (run_bytes s.bus s.place (come ++ r))) (λ r. more ++ r) (λ r. ap (λ (l : List ℕ). before text (run_bytes s.bus s.place l)) (whole-is r) ∙ sym (h.same ((s1.pending.items ++ line) ++ 10 ∷ (more ++ r)))) refl t
+
+-- what is left of a piece was kept, or stops the run
+pub took_rest : (result : Result Unit Stop) (come rest : List ℕ) (s : Session) (text : List ℕ) (s1 : Session) (text1 : List ℕ) (pending : Vec ℕ Global) → TookSome come rest s text s1 text1 → IsPart rest → Holds result s1.place s1.pending.items rest pending.items → Takes result come s text (record { bus = s1.bus; place = s1.place; pending = pending }) text1
+took_rest (Ok u) come rest s text s1 text1 pending h part held =
+    let kept = held.0 in
+    let size = h.size in
+    let both = ap (λ (l : List ℕ). length l) kept ∙ length-append s1.pending.items rest in
+    record {
+      whole = h.whole;
+      parts = h.parts ∙ ap (λ (l : List ℕ). h.whole ++ l) (sym kept ∙ sym (append-nil pending.items));
+      lines = h.lines;
+      session = record { sound = h.session.sound; part = subst IsPart (sym kept) (IsPart-append s1.pending.items rest h.session.part part); within = record { count = h.session.within.count; used = held.1 } };
+      size = omega arith;
+      same = h.same;
+    }
+took_rest (Err stop) come rest s text s1 text1 pending h part held =
+    let whole-is : (r : List ℕ) → come ++ r ≡ h.whole ++ ((s1.pending.items ++ rest) ++ r) = λ r. ap (λ (l : List ℕ). l ++ r) h.parts ∙ append_assoc h.whole (s1.pending.items ++ rest) r in
+    stops_by stop text1 text1 (λ (r : List ℕ). before text1 (run_bytes s1.bus s1.place ((s1.pending.items ++ rest) ++ r))) (λ (r : List ℕ). before text (run_bytes s.bus s.place (come ++ r))) (λ r. r) (λ r. ap (λ (l : List ℕ). before text (run_bytes s.bus s.place l)) (whole-is r) ∙ sym (h.same ((s1.pending.items ++ rest) ++ r))) refl (holds_err stop s1 text1 rest pending.items (IsPart-append s1.pending.items rest h.session.part part) held)
+
+-- ---- the first LF
+
+not_true : (b : Bool) → (b ≡ true → ⊥) → b ≡ false
+not_true true h = absurd (h refl)
+not_true false h = refl
+
+-- bytes in which no place has a LF
+pub part_from_places : (bytes : List ℕ) → ((k : ℕ) → k < length bytes → eqb (get_or bytes k 0) 10 ≡ true → ⊥) → IsPart bytes
+part_from_places [] h = tt
+part_from_places (b ∷ bs) h = (not_true (eqb b 10) (h 0 (omega arith)), part_from_places bs (λ k lt e. h (suc k) (omega arith) e))
+
+-- ---- the last line
+
+pub finish_none : (s : Session) (text : List ℕ) → s.pending.items ≡ [] → before text (run_bytes s.bus s.place s.pending.items) ≡ before text (ended Finished)
+finish_none s text none = ap (λ (l : List ℕ). before text (run_bytes s.bus s.place l)) none ∙ ap (before text) (no_line (state_of s.bus) s.place.count s.place.used)
+
+pub finishes : (result : Result Unit Stop) (seen : List ℕ) (s : Session) (text : List ℕ) (b : Bus) (p : Place) (text' : List ℕ) → seen ≡ s.pending.items → IsPart s.pending.items → 0 < length s.pending.items → TakesLine result (record { text = seen; size = length seen + 0 }) s.bus s.place text b p text' → Finishes result s text text'
+finishes (Ok u) seen s text b p text' e part some h =
+    let line = lines_of-last s.pending.items part some in
+    let last = subst (λ (l : List ℕ). SameRun text (λ ls. run_lines s.bus s.place ((record { text = l; size = length l + 0 }) ∷ ls)) text' (run_lines b p)) e h.3 in
+    let sized : length s.pending.items + 0 ≡ length s.pending.items = omega arith in
+    ap (λ (ls : List RawLine). before text (run_lines s.bus s.place ls)) (line ∙ ap (λ (n : ℕ). record { text = s.pending.items; size = n } ∷ []) (sym sized)) ∙ sym (last []) ∙ ap (before text') (no_line (state_of b) p.count p.used)
+finishes (Err stop) seen s text b p text' e part some h =
+    let line = lines_of-last s.pending.items part some in
+    let stopped = subst (λ (l : List ℕ). Stops stop text (λ ls. before text (run_lines s.bus s.place ((record { text = l; size = length l + 0 }) ∷ ls)))) e h.1 in
+    let sized : length s.pending.items + 0 ≡ length s.pending.items = omega arith in
+    stops_by stop text text' (λ ls. before text (run_lines s.bus s.place ((record { text = s.pending.items; size = length s.pending.items + 0 }) ∷ ls))) (λ (v : Unit {0}). before text (run_bytes s.bus s.place s.pending.items)) (λ v. []) (λ v. ap (λ (ls : List RawLine). before text (run_lines s.bus s.place ls)) (line ∙ ap (λ (n : ℕ). record { text = s.pending.items; size = n } ∷ []) (sym sized))) h.0 stopped
+
+no_items : (xs : List ℕ) → length xs ≡ 0 → xs ≡ []
+no_items [] e = refl
+no_items (x ∷ xs) e = absurd (omega arith)
+
+-- a list whose length is tested against 0
+pub empty_items : (xs : List ℕ) (n : ℕ) → n ≡ length xs → eqb n 0 ≡ true → xs ≡ []
+empty_items xs n len h = no_items xs (sym len ∙ eqb-true n 0 h)
+
+pub some_items : (xs : List ℕ) (n : ℕ) → n ≡ length xs → eqb n 0 ≡ false → 0 < length xs
+some_items [] n len h = absurd (eqb-false n 0 h len)
+some_items (x ∷ xs) n len h = omega arith
+
+-- the front of bytes before the first LF, and what stands behind it
+pub first_some : (bytes front end : List ℕ) (at : ℕ) → IsFirstByte (is_byte 10) bytes (Some at) → front ≡ take at bytes → end ≡ drop at bytes → IsPart front × (bytes ≡ front ++ 10 ∷ take (length end - 1) (drop 1 end))
+first_some bytes front end at h f e =
+    let within = h.0.high in
+    let lf : get_or bytes at 0 ≡ 10 = eqb-true (get_or bytes at 0) 10 h.1 in
+    let shorter = length-take at bytes in
+    let part : IsPart (take at bytes) = part_from_places (take at bytes) (λ k lt t.
+        let low : k < at = omega (arith, shorter) in
+        h.0.before k (omega arith) low (subst (λ (b : ℕ). eqb b 10 ≡ true) (get_or-take at bytes k 0 low) t)) in
+    let behind : end ≡ 10 ∷ drop (at + 1) bytes = e ∙ drop_more bytes at 0 within ∙ ap (λ (b : ℕ). b ∷ drop (at + 1) bytes) lf in
+    let rest : take (length end - 1) (drop 1 end) ≡ drop (at + 1) bytes = take_rest end 1 ∙ ap (drop 1) behind in
+    (subst IsPart (sym f) part, sym (take-append-drop at bytes) ∙ (λ i. sym f i ++ (sym e ∙ behind ∙ ap (λ (l : List ℕ). 10 ∷ l) (sym rest)) i))
+
+pub first_none : (bytes : List ℕ) → IsFirstByte (is_byte 10) bytes None → IsPart bytes
+first_none bytes h = part_from_places bytes (λ k lt t. h k (omega arith) lt t)

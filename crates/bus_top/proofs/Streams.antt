@@ -1,0 +1,65 @@
+-- Runs over lines that come one after the other.
+use Rattle.std.proofs.Common.{◌≡◌, ℕ, ◌+◌, ◌<◌, ◌≤◌, Bool, true, false, cond, List, [], ◌∷◌, ◌++◌, Option, Some, None, length, refl, sym, ap, ◌∙◌, subst, append_assoc, append-nil, arith}
+use Rattle.std.specs.Prelude.{nat_le, nat_lt, ◌||◌}
+use Rattle.std.specs.Io.{StartsWith}
+use Rattle.std.proofs.lemmas.Bool.{leb-false, ltb-false}
+use Rattle.std.proofs.lemmas.List.{take_at}
+use Rattle.bus_types.specs.Script.{State}
+use Rattle.trace_script.specs.Run.{RawLine, lines_of, IsPart, IsWhole, most_lines, longest_line, longest_input, is_too_long, Played, Ending, before, ended, played, text_step}
+use Rattle.trace_script.specs.Run.Ending.{Finished, BadAt, TooLongAt}
+use Rattle.bus_top.specs.declared.session.Place.{Place}
+use Rattle.bus_top.specs.Session.{is_long}
+use Rattle.trace_script.proofs.LineLaws.{before-before, lines_of-line, lines_of-last, long_part, IsWhole-line, IsWhole-append}
+
+-- a line that is too long stops a run
+pub long_line : (s : State) (count used : ℕ) (raw : RawLine) (ls : List RawLine) → is_too_long count used raw ≡ true → played s count used (raw ∷ ls) ≡ ended (TooLongAt (count + 1))
+unfolding played
+long_line s count used raw ls h = rw h refl
+
+-- so does a line outside the grammar or against its rules
+pub bad_line : (s : State) (count used : ℕ) (raw : RawLine) (ls : List RawLine) → is_too_long count used raw ≡ false → text_step s raw.text ≡ None → played s count used (raw ∷ ls) ≡ ended (BadAt (count + 1))
+unfolding played
+bad_line s count used raw ls h e = rw (h, e) refl
+
+-- a good line prints its text
+pub good_line : (s next : State) (count used : ℕ) (raw : RawLine) (printed : List ℕ) (ls : List RawLine) → is_too_long count used raw ≡ false → text_step s raw.text ≡ Some (next, printed) → played s count used (raw ∷ ls) ≡ before printed (played next (count + 1) (used + raw.size) ls)
+unfolding played
+good_line s next count used raw printed ls h e = rw (h, e) refl
+
+-- no line is at its end
+pub no_line : (s : State) (count used : ℕ) → played s count used [] ≡ ended Finished
+unfolding played
+no_line s count used = refl
+
+-- a text before an end
+pub before-ended : (text : List ℕ) (ending : Ending) → before text (ended ending) ≡ record { text = text; ending = ending }
+before-ended text ending = ap (λ (t : List ℕ). record { text = t; ending = ending }) (append-nil text)
+
+pub stops_long : (text : List ℕ) (s : State) (count used : ℕ) (raw : RawLine) → is_too_long count used raw ≡ true → (ls : List RawLine) → before text (played s count used (raw ∷ ls)) ≡ record { text = text; ending = TooLongAt (count + 1) }
+stops_long text s count used raw h ls = ap (before text) (long_line s count used raw ls h) ∙ before-ended text (TooLongAt (count + 1))
+
+pub stops_bad : (text : List ℕ) (s : State) (count used : ℕ) (raw : RawLine) → is_too_long count used raw ≡ false → text_step s raw.text ≡ None → (ls : List RawLine) → before text (played s count used (raw ∷ ls)) ≡ record { text = text; ending = BadAt (count + 1) }
+stops_bad text s count used raw h e ls = ap (before text) (bad_line s count used raw ls h e) ∙ before-ended text (BadAt (count + 1))
+
+pub goes_on : (text more printed : List ℕ) (s next : State) (count used : ℕ) (raw : RawLine) → more ≡ text ++ printed → is_too_long count used raw ≡ false → text_step s raw.text ≡ Some (next, printed) → (ls : List RawLine) → before more (played next (count + 1) (used + raw.size) ls) ≡ before text (played s count used (raw ∷ ls))
+goes_on text more printed s next count used raw m h e ls =
+    ap (λ (t : List ℕ). before t (played next (count + 1) (used + raw.size) ls)) m
+    ∙ sym (before-before text printed (played next (count + 1) (used + raw.size) ls))
+    ∙ ap (before text) (sym (good_line s next count used raw printed ls h e))
+
+-- a text begins with itself, whatever stands behind it
+pub starts : (text more : List ℕ) → StartsWith (text ++ more) text
+starts text more = take_at text more (length text) refl
+
+none_holds : (a b c : Bool) → (a || b || c) ≡ false → (a ≡ false) × (b ≡ false) × (c ≡ false)
+none_holds true b c h = absurd cc
+none_holds false true c h = absurd cc
+none_holds false false true h = absurd cc
+none_holds false false false h = (refl, refl, refl)
+
+-- a line that isn't too long leaves the next place within the limits
+pub within_next : (p : Place) (line size : ℕ) → is_long p line size ≡ false → (p.count + 1 ≤ most_lines) × (p.used + size ≤ longest_input)
+within_next p line size h =
+    let n = none_holds (nat_le most_lines p.count) (nat_lt longest_line line) (nat_lt longest_input (p.used + size)) h in
+    let few = leb-false most_lines p.count n.0 in
+    (omega arith, ltb-false longest_input (p.used + size) n.2)

@@ -1,0 +1,17 @@
+use Rattle.std.proofs.Common.{◌++◌, ◌∙◌, Ok, Err, subst, sym}
+use Rattle.std.proofs.lemmas.Result.{err_from_is_err_and}
+use Rattle.bus_top.proofs.Pieces.{took_none, took_more, took_err, took_rest}
+use Rattle.bus_top.proofs.session.Session.feed.Goals as goal
+
+pub loop-line-init : goal.loop-line-init
+loop-line-init c = took_none c.args.self.now c.args.piece.now c.args.text.now.items c.requires
+
+pub loop-line-preserved : goal.loop-line-preserved
+loop-line-preserved c = took_more _ _ c.loop-line.rest.now c.in-Some.line.now c.in-Some.after.now c.args.self.now c.args.text.now.items c.loop-line.self c.loop-line.text.items c.take_line.new.self c.take_line.new.text.items c.loop-line.invariant c.in-Some.ensures.some.0 c.in-Some.ensures.some.1 c.in_ok-take_line.ensures
+
+pub returns-in_err-take_line : goal.returns-in_err-take_line
+returns-in_err-take_line c = let p = err_from_is_err_and c.from_residual.result c.from_residual.ensures.1 in
+    rw (p.1, p.2) (took_err c.in_err-take_line.field-0.0 _ c.loop-line.rest.now c.in-Some.line.now c.in-Some.after.now c.args.self.now c.args.text.now.items c.loop-line.self c.loop-line.text.items c.take_line.new.text.items c.loop-line.invariant c.in-Some.ensures.some.1 c.in_err-take_line.ensures)
+
+pub returns : goal.returns
+returns c = took_rest c.hold.result _ c.loop-line.rest.now c.args.self.now c.args.text.now.items c.loop-line.self c.loop-line.text.items c.hold.new.pending c.loop-line.invariant c.in_default.ensures.none c.hold.ensures

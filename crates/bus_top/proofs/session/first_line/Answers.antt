@@ -1,0 +1,5 @@
+use Rattle.bus_top.proofs.Pieces.{first_some, first_none}
+use Rattle.bus_top.proofs.session.first_line.Goals as goal
+
+pub returns : goal.returns
+returns c = record { some = first_some c.args.bytes.now _ _ c.in_ok-at.at c.in_ok-at.ensures c.split_at.ensures.front c.split_at.ensures.back; none = tt }

@@ -1,0 +1,4 @@
+pub mod Relay
+pub mod Bus
+pub mod Session
+pub mod Trace

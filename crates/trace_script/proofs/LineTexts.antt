@@ -1,0 +1,198 @@
+-- Lines and their texts.
+use Rattle.std.proofs.Common.{◌≡◌, ℕ, ◌<◌, true, false, ◌==◌, inl, inr, nat_le, List, [], ◌∷◌, length, codes, Some, None, Result, Ok, Err, refl, sym, ap, ◌∙◌, arith, lit<}
+use Rattle.std.specs.Prelude.{bytes_eq, IfOk, IsErrOf}
+use Rattle.std.specs.List.{list_any, AllByRecursion, join_with_byte}
+use Rattle.std.proofs.lemmas.Bool.{leb-true, le-leb}
+use Rattle.std.proofs.lemmas.List.{length-map}
+use Rattle.std.proofs.lemmas.List.Splits.{join_with_byte-slice_split}
+use Rattle.std.proofs.lemmas.Option.{cond_some}
+use Rattle.std.proofs.lemmas.Slice.Eq.{bytes_eq-Decides}
+use Rattle.bus_types.specs.declared.change.Change.{Change}
+use Rattle.trace_script.specs.declared.fault.LineFault.{LineFault}
+use Rattle.trace_script.specs.declared.fault.LineFault.TheVariants.{BadLine, NoMemory}
+use Rattle.trace_script.specs.declared.line.Line.{Line}
+use Rattle.trace_script.specs.declared.line.Line.TheVariants.{Blank, Consumer, Commit, Feed, Poll, Show}
+use Rattle.trace_script.specs.Words.{words_of, number_of, is_name_text, name_of, max_u64, changes_of}
+use Rattle.trace_script.specs.Lines.{is_blank, consumer_of, commit_of, feed_of, poll_of, show_of, words_line, line_of}
+use Rattle.trace_script.specs.Spelling.{IsName, IsLine, Spells, change_text, line_words}
+use Rattle.trace_script.specs.Reading.{Reads}
+use Rattle.trace_script.proofs.Steps.{bind_some, chosen}
+use Rattle.trace_script.proofs.Numbers.{number_taken, number_again}
+use Rattle.trace_script.proofs.ChangeTexts.{changes_taken, changes_again}
+use Rattle.trace_script.proofs.WordTexts.{IsWord, words_again, no_return, IsWord-decimal, IsWord-name, words-changes}
+
+-- ---- what is read is spelled so
+
+-- words that a line, which isn't blank, has
+abbrev HasWords : List (List ℕ) → Line → Type 0
+HasWords words Blank = ⊥
+HasWords words line = IsLine line × (words ≡ line_words line)
+
+name_taken : (word name : List ℕ) → name_of word ≡ Some name → (word ≡ name) × IsName name
+unfolding name_of
+name_taken word name h =
+    let taken = cond_some (is_name_text word) word name h in
+    (taken.1, rw (← taken.1) taken.0)
+
+consumer_taken : (words : List (List ℕ)) (line : Line) → consumer_of words ≡ Some line → HasWords (codes "consumer" ∷ words) line
+unfolding consumer_of
+consumer_taken (name ∷ filter ∷ []) line h =
+    let known = bind_some (name_of name) _ line h in
+    let end = cond_some (bytes_eq filter (codes "all")) (Consumer known.0) line known.2 in
+    let all = (bytes_eq-Decides filter (codes "all")).0 end.0 in
+    let named = name_taken name known.0 known.1 in
+    rw (← end.1) (named.1, cc (named.0, all))
+consumer_taken [] line h = cc h
+consumer_taken (name ∷ []) line h = cc h
+consumer_taken (name ∷ filter ∷ more ∷ words) line h = cc h
+
+commit_taken : (words : List (List ℕ)) (line : Line) → commit_of words ≡ Some line → HasWords (codes "commit" ∷ words) line
+unfolding commit_of
+commit_taken (scn ∷ change ∷ words) line h =
+    let number = bind_some (number_of max_u64 scn) _ line h in
+    let changes = bind_some (changes_of (change ∷ words)) _ line number.2 in
+    let whole : Commit number.0 changes.0 ≡ line = cc (changes.2) in
+    let spelled = number_taken max_u64 number.0 scn (lit< tt) number.1 in
+    let all = changes_taken (change ∷ words) changes.0 changes.1 in
+    let long : 0 < length changes.0 = omega (arith, ap length all.0, length-map changes.0 change_text) in
+    rw (← whole) ((omega (arith, spelled.1), long, all.1, all.2), cc (spelled.0, all.0))
+commit_taken [] line h = cc h
+commit_taken (scn ∷ []) line h = cc h
+
+feed_taken : (words : List (List ℕ)) (line : Line) → feed_of words ≡ Some line → HasWords (codes "feed" ∷ words) line
+unfolding feed_of
+feed_taken (count ∷ []) line h =
+    let number = bind_some (number_of 1000000 count) _ line h in
+    let end = cond_some (nat_le 1 number.0) (Feed number.0) line number.2 in
+    let spelled = number_taken 1000000 number.0 count (lit< tt) number.1 in
+    rw (← end.1) ((leb-true 1 number.0 end.0, spelled.1), cc (spelled.0))
+feed_taken [] line h = cc h
+feed_taken (count ∷ more ∷ words) line h = cc h
+
+poll_taken : (words : List (List ℕ)) (line : Line) → poll_of words ≡ Some line → HasWords (codes "poll" ∷ words) line
+unfolding poll_of
+poll_taken (name ∷ max ∷ []) line h =
+    let known = bind_some (name_of name) _ line h in
+    let number = bind_some (number_of 16777216 max) _ line known.2 in
+    let end = cond_some (nat_le 1 number.0) (Poll known.0 number.0) line number.2 in
+    let named = name_taken name known.0 known.1 in
+    let spelled = number_taken 16777216 number.0 max (lit< tt) number.1 in
+    rw (← end.1) ((named.1, leb-true 1 number.0 end.0, spelled.1), cc (named.0, spelled.0))
+poll_taken [] line h = cc h
+poll_taken (name ∷ []) line h = cc h
+poll_taken (name ∷ max ∷ more ∷ words) line h = cc h
+
+show_taken : (words : List (List ℕ)) (line : Line) → show_of words ≡ Some line → HasWords (codes "show" ∷ words) line
+unfolding show_of
+show_taken (name ∷ []) line h =
+    let known = bind_some (name_of name) _ line h in
+    let whole : Show known.0 ≡ line = cc (known.2) in
+    let named = name_taken name known.0 known.1 in
+    rw (← whole) (named.1, cc (named.0))
+show_taken [] line h = cc h
+show_taken (name ∷ more ∷ words) line h = cc h
+
+-- what holds of a line under its first word holds under a word that is equal to it
+named_taken : (word name : List ℕ) (words : List (List ℕ)) (line : Line) → bytes_eq word name ≡ true → HasWords (name ∷ words) line → HasWords (word ∷ words) line
+named_taken word name words line same h = rw ((bytes_eq-Decides word name).0 same) h
+
+words_taken : (words : List (List ℕ)) (line : Line) → words_line words ≡ Some line → HasWords words line
+unfolding words_line
+words_taken [] line h = cc h
+words_taken (word ∷ words) line h =
+    elim (chosen (bytes_eq word (codes "commit")) (commit_of words) _ (Some line) h) [
+      | inl commit ↦ named_taken word (codes "commit") words line commit.0 (commit_taken words line commit.1)
+      | inr other ↦ elim (chosen (bytes_eq word (codes "feed")) (feed_of words) _ (Some line) other.1) [
+        | inl feed ↦ named_taken word (codes "feed") words line feed.0 (feed_taken words line feed.1)
+        | inr other ↦ elim (chosen (bytes_eq word (codes "poll")) (poll_of words) _ (Some line) other.1) [
+          | inl poll ↦ named_taken word (codes "poll") words line poll.0 (poll_taken words line poll.1)
+          | inr other ↦ elim (chosen (bytes_eq word (codes "show")) (show_of words) _ (Some line) other.1) [
+            | inl show ↦ named_taken word (codes "show") words line show.0 (show_taken words line show.1)
+            | inr other ↦ elim (chosen (bytes_eq word (codes "consumer")) (consumer_of words) None (Some line) other.1) [
+              | inl consumer ↦ named_taken word (codes "consumer") words line consumer.0 (consumer_taken words line consumer.1)
+              | inr other ↦ cc other.1
+            ]
+          ]
+        ]
+      ]
+    ]
+
+joined : (text : List ℕ) (words : List (List ℕ)) → words_of text ≡ words → text ≡ join_with_byte 32 words
+joined text words same = sym (join_with_byte-slice_split 32 text) ∙ ap (join_with_byte 32) same
+
+text_taken : (text : List ℕ) (line : Line) → HasWords (words_of text) line → Spells text line
+text_taken text Blank h = absurd h
+text_taken text (Consumer name) h = (h.0, joined text _ h.1)
+text_taken text (Commit scn changes) h = (h.0, joined text _ h.1)
+text_taken text (Feed count) h = (h.0, joined text _ h.1)
+text_taken text (Poll name max) h = (h.0, joined text _ h.1)
+text_taken text (Show name) h = (h.0, joined text _ h.1)
+
+pub line_taken : (text : List ℕ) (line : Line) → line_of text ≡ Some line → Spells text line
+unfolding line_of
+line_taken text line h =
+    elim (chosen (list_any (λ b. b == 13) text) None _ (Some line) h) [
+      | inl bad ↦ cc bad.1
+      | inr fine ↦ elim (chosen (is_blank text) (Some Blank) (words_line (words_of text)) (Some line) fine.1) [
+        | inl blank ↦
+            let whole : Blank ≡ line = cc (blank.1) in
+            rw (← whole) (blank.0, fine.0)
+        | inr full ↦ text_taken text line (words_taken (words_of text) line full.1)
+      ]
+    ]
+
+-- ---- what is spelled so is read
+
+words_are : (line : Line) → IsLine line → AllByRecursion IsWord (line_words line)
+words_are Blank h = tt
+words_are (Consumer name) h = (refl, (IsWord-name name h, (refl, tt)))
+words_are (Commit scn changes) h = (refl, (IsWord-decimal scn h.0, words-changes changes h.2 h.3))
+words_are (Feed count) h = (refl, (IsWord-decimal count (omega arith), tt))
+words_are (Poll name max) h = (refl, (IsWord-name name h.0, (IsWord-decimal max (omega arith), tt)))
+words_are (Show name) h = (refl, (IsWord-name name h, tt))
+
+from_words : (word : List ℕ) (words : List (List ℕ)) (line : Line) → AllByRecursion IsWord (word ∷ words)
+    → is_blank (join_with_byte 32 (word ∷ words)) ≡ false → words_line (word ∷ words) ≡ Some line → line_of (join_with_byte 32 (word ∷ words)) ≡ Some line
+unfolding line_of
+from_words word words line all full read = rw (no_return (word ∷ words) all, full, words_again word words all) read
+
+consumer_again : (name : List ℕ) → IsName name → words_line (line_words (Consumer name)) ≡ Some (Consumer name)
+unfolding words_line consumer_of name_of
+consumer_again name named = rw named refl
+
+commit_again : (scn : ℕ) (changes : List Change) → IsLine (Commit scn changes) → words_line (line_words (Commit scn changes)) ≡ Some (Commit scn changes)
+unfolding words_line commit_of
+commit_again scn [] h = absurd (omega (arith, h.1))
+commit_again scn (c ∷ cs) h = rw (number_again max_u64 scn (lit< tt) (omega (arith, h.0)), changes_again (c ∷ cs) h.2 h.3) refl
+
+feed_again : (count : ℕ) → IsLine (Feed count) → words_line (line_words (Feed count)) ≡ Some (Feed count)
+unfolding words_line feed_of
+feed_again count h = rw (number_again 1000000 count (lit< tt) h.1, le-leb 1 count h.0) refl
+
+poll_again : (name : List ℕ) (max : ℕ) → IsLine (Poll name max) → words_line (line_words (Poll name max)) ≡ Some (Poll name max)
+unfolding words_line poll_of name_of
+poll_again name max h = rw (h.0, number_again 16777216 max (lit< tt) h.2, le-leb 1 max h.1) refl
+
+show_again : (name : List ℕ) → IsName name → words_line (line_words (Show name)) ≡ Some (Show name)
+unfolding words_line show_of name_of
+show_again name named = rw named refl
+
+pub line_again : (text : List ℕ) (line : Line) → Spells text line → line_of text ≡ Some line
+unfolding line_of
+line_again text Blank h = rw (h.1, h.0) refl
+line_again text (Consumer name) h = rw h.1 (from_words _ _ _ (words_are (Consumer name) h.0) refl (consumer_again name h.0))
+line_again text (Commit scn changes) h = rw h.1 (from_words _ _ _ (words_are (Commit scn changes) h.0) refl (commit_again scn changes h.0))
+line_again text (Feed count) h = rw h.1 (from_words _ _ _ (words_are (Feed count) h.0) refl (feed_again count h.0))
+line_again text (Poll name max) h = rw h.1 (from_words _ _ _ (words_are (Poll name max) h.0) refl (poll_again name max h.0))
+line_again text (Show name) h = rw h.1 (from_words _ _ _ (words_are (Show name) h.0) refl (show_again name h.0))
+
+-- ---- what a call answered
+
+pub found : (result : Result Line LineFault) (text : List ℕ) → Reads (λ line. line) result (line_of text) → IfOk result (λ line. Spells text line)
+found (Ok line) text h = line_taken text line h
+found (Err fault) text h = tt
+
+pub bad : (result : Result Line LineFault) (text : List ℕ) → Reads (λ line. line) result (line_of text) → IsErrOf result BadLine → (line : Line) → Spells text line → ⊥
+bad (Ok read) text h is line spelled = cc is
+bad (Err BadLine) text h is line spelled = cc (sym h ∙ line_again text line spelled)
+bad (Err NoMemory) text h is line spelled = cc is
