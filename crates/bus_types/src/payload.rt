@@ -1,4 +1,4 @@
-ghost use Rattle.std.specs.Prelude.{◌≡◌, ◌<◌, ◌≤◌, ◌↔◌, length, IfOk, IsErrOf};
+ghost use Rattle.std.specs.Prelude.{◌≡◌, ◌<◌, ◌≤◌, ◌↔◌, length, IfOk, IsErrOf, IsSome, IfSome};
 ghost use Rattle.bus_types.specs.declared.limits.TheConstants.{MAX_PAYLOAD};
 
 use crate::fault::NoMemory;
@@ -45,6 +45,17 @@ impl Payload {
             return Err(PayloadFault::NoMemory);
         };
         Ok(Payload { bytes })
+    }
+
+    /// A payload that keeps this vector. `None` comes exactly above [`MAX_PAYLOAD`] bytes.
+    pub fn from_vec(bytes: Vec<u8>) -> Option<Payload>
+        ensures short { IsSome result ↔ (length bytes.items ≤ MAX_PAYLOAD) }
+        ensures value { IfSome result (λ payload. payload ≡ bytes.items) }
+    {
+        if bytes.len() > MAX_PAYLOAD {
+            return None;
+        }
+        Some(Payload { bytes })
     }
 
     /// The bytes.
