@@ -7,3 +7,4 @@ pub mod ChangeTexts
 pub mod WordTexts
 pub mod LineTexts
 pub mod LineLaws
+pub mod Consumers

@@ -4,6 +4,7 @@
 
 mod change;
 mod fault;
+mod laws;
 mod line;
 mod name;
 mod number;
@@ -11,6 +12,7 @@ mod reading;
 mod rows;
 
 pub use fault::LineFault;
+pub use laws::consumers_never_go_back;
 pub use line::Line;
 pub use name::Name;
 pub use reading::read_line;
