@@ -6,3 +6,5 @@ mod source;
 
 pub use source::{CommitFault, SourceDb};
 
+#[cfg(test)]
+mod tests;
