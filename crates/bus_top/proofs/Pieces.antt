@@ -33,8 +33,7 @@ pub takes_end : (result : Result Unit Stop) (line : List ℕ) (s : Session) (tex
 takes_end (Ok u) line s text b p pending text' part none h =
     let used = h.2 in
     let within = h.1.used in
-    let empty : length pending.items ≡ 0 = ap (λ (l : List ℕ). length l) none in
-    (
+    let empty : length pending.items ≡ 0 = ap (λ (l : List ℕ). length l) none in (
       record { sound = h.0; part = subst IsPart (sym none) tt; within = record { count = h.1.count; used = omega arith } },
       none,
       omega arith,
@@ -102,10 +101,10 @@ took_more u come rest line more s text s1 text1 s2 text2 h part e t =
 pub took_err : (stop : Stop) (come rest line more : List ℕ) (s : Session) (text : List ℕ) (s1 : Session) (text1 text2 : List ℕ) → TookSome come rest s text s1 text1 → rest ≡ line ++ 10 ∷ more → Stops stop text2 (λ (r : List ℕ). before text1 (run_bytes s1.bus s1.place ((s1.pending.items ++ line) ++ 10 ∷ r))) → Stops stop text2 (λ (r : List ℕ). before text (run_bytes s.bus s.place (come ++ r)))
 took_err stop come rest line more s text s1 text1 text2 h e t =
     let whole-is : (r : List ℕ) → come ++ r ≡ h.whole ++ ((s1.pending.items ++ line) ++ 10 ∷ (more ++ r)) = λ r.
-        ap (λ (l : List ℕ). l ++ r) h.parts ∙ append_assoc h.whole (s1.pending.items ++ rest) r
-        ∙ ap (λ (l : List ℕ). h.whole ++ ((s1.pending.items ++ l) ++ r)) e
-        ∙ ap (λ (l : List ℕ). h.whole ++ (l ++ r)) (sym (append_assoc s1.pending.items line (10 ∷ more)))
-        ∙ ap (λ (l : List ℕ). h.whole ++ l) (append_assoc (s1.pending.items ++ line) (10 ∷ more) r) in
+    ap (λ (l : List ℕ). l ++ r) h.parts ∙ append_assoc h.whole (s1.pending.items ++ rest) r
+    ∙ ap (λ (l : List ℕ). h.whole ++ ((s1.pending.items ++ l) ++ r)) e
+    ∙ ap (λ (l : List ℕ). h.whole ++ (l ++ r)) (sym (append_assoc s1.pending.items line (10 ∷ more)))
+    ∙ ap (λ (l : List ℕ). h.whole ++ l) (append_assoc (s1.pending.items ++ line) (10 ∷ more) r) in
     stops_by stop text2 text2 (λ (r : List ℕ). before text1 (run_bytes s1.bus s1.place ((s1.pending.items ++ line) ++ 10 ∷ r))) (λ (r : List ℕ). before text (run_bytes s.bus s.place (come ++ r))) (λ r. more ++ r) (λ r. ap (λ (l : List ℕ). before text (run_bytes s.bus s.place l)) (whole-is r) ∙ sym (h.same ((s1.pending.items ++ line) ++ 10 ∷ (more ++ r)))) refl t
 
 -- what is left of a piece was kept, or stops the run
@@ -173,8 +172,8 @@ first_some bytes front end at h f e =
     let lf : get_or bytes at 0 ≡ 10 = eqb-true (get_or bytes at 0) 10 h.1 in
     let shorter = length-take at bytes in
     let part : IsPart (take at bytes) = part_from_places (take at bytes) (λ k lt t.
-        let low : k < at = omega (arith, shorter) in
-        h.0.before k (omega arith) low (subst (λ (b : ℕ). eqb b 10 ≡ true) (get_or-take at bytes k 0 low) t)) in
+    let low : k < at = omega (arith, shorter) in
+    h.0.before k (omega arith) low (subst (λ (b : ℕ). eqb b 10 ≡ true) (get_or-take at bytes k 0 low) t)) in
     let behind : end ≡ 10 ∷ drop (at + 1) bytes = e ∙ drop_more bytes at 0 within ∙ ap (λ (b : ℕ). b ∷ drop (at + 1) bytes) lf in
     let rest : take (length end - 1) (drop 1 end) ≡ drop (at + 1) bytes = take_rest end 1 ∙ ap (drop 1) behind in
     (subst IsPart (sym f) part, sym (take-append-drop at bytes) ∙ (λ i. sym f i ++ (sym e ∙ behind ∙ ap (λ (l : List ℕ). 10 ∷ l) (sym rest)) i))

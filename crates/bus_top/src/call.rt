@@ -121,12 +121,7 @@ fn turn<S: Source, W: Sink>(
 }
 
 // Takes the last line and writes what it prints.
-fn end<W: Sink>(
-    alloc: Global,
-    session: &mut Session,
-    text: &mut Vec<u8>,
-    out: &mut W,
-) -> Status
+fn end<W: Sink>(alloc: Global, session: &mut Session, text: &mut Vec<u8>, out: &mut W) -> Status
     requires session { IsSession session.old }
     requires empty { text.old.items ≡ [] }
     ensures ends { Ends result (W.written out.old) (W.written out.new) session.old }

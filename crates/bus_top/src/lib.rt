@@ -1,5 +1,8 @@
-//! The top.
+//! The top of the program: `trace` reads a script, lets its source, its relay and its consumers do what the lines say,
+//! and writes what they print. It stands on `trace_script` for the lines, on `source_db` for the commits, and on
+//! `bus_io` for what is read and written.
 #![tactic(auto)]
+
 mod bus;
 mod call;
 mod consumer;
@@ -11,3 +14,6 @@ mod text;
 
 pub use call::trace;
 pub use status::Status;
+
+#[cfg(test)]
+mod tests;

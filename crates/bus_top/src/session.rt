@@ -61,12 +61,7 @@ impl Session {
     }
 
     /// Takes the next piece of the input, and appends what its whole lines print.
-    pub fn feed(
-        &mut self,
-        alloc: Global,
-        piece: &[u8],
-        text: &mut Vec<u8>,
-    ) -> Result<(), Stop>
+    pub fn feed(&mut self, alloc: Global, piece: &[u8], text: &mut Vec<u8>) -> Result<(), Stop>
         requires { IsSession self.old }
         ensures { Takes result (self.old.pending.items ++ piece.now) self.old text.old.items self.new text.new.items }
     {
@@ -108,7 +103,14 @@ impl Session {
         ensures { TakesEnd result (self.old.pending.items ++ end.now) self.old text.old.items self.new text.new.items }
     {
         hold(&self.place, &mut self.pending, end)?;
-        step(&mut self.bus, &mut self.place, alloc, &self.pending, 1, text)?;
+        step(
+            &mut self.bus,
+            &mut self.place,
+            alloc,
+            &self.pending,
+            1,
+            text,
+        )?;
         self.pending.clear();
         Ok(())
     }
@@ -121,7 +123,14 @@ impl Session {
         if self.pending.is_empty() {
             return Ok(());
         }
-        step(&mut self.bus, &mut self.place, alloc, &self.pending, 0, text)
+        step(
+            &mut self.bus,
+            &mut self.place,
+            alloc,
+            &self.pending,
+            0,
+            text,
+        )
     }
 }
 
