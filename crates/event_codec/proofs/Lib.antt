@@ -1,0 +1,10 @@
+pub mod Numbers
+pub mod Heads
+pub mod Events
+pub mod Marks
+pub mod Places
+pub mod Views
+pub mod Windows
+pub mod Writing
+pub mod Cuts
+pub mod Frames

@@ -1,0 +1,57 @@
+ghost use Rattle.std.specs.Prelude.{◌≡◌, ◌+◌, ◌≤◌, ℕ, length, IfSome, IfNone, option_map};
+ghost use Rattle.event_codec.specs.Bytes.{Event, IsEvent, event_bytes, StandsAt};
+
+use crate::head::{HEAD_SIZE, Head};
+use crate::number::tail;
+
+/// An event where it stands in bytes.
+#[derive(Clone, Copy, Debug)]
+pub struct EventView<'a> {
+    /// 1 for a put, 2 for a delete.
+    pub kind: u8,
+    /// The source of the row.
+    pub source: u16,
+    /// The SCN of the event's window, from 1 on.
+    pub scn: u64,
+    /// The key of the row.
+    pub key: u64,
+    /// The row's bytes, at most 65,536; none for a delete.
+    pub payload: &'a [u8],
+}
+
+impl<'a> EventView<'a> {
+    ghost use Rattle.event_codec.specs.View.{event_of, IsView};
+    ghost use Rattle.event_codec.specs.Reading.{event_front};
+    ghost use Rattle.event_codec.specs.Parts.{parts};
+
+    // The event that bytes begin with.
+    #[tactic(auto, unfolding(crate::specs::Reading::event_front))]
+    fn front(bytes: &'a [u8]) -> Option<EventView<'a>>
+        ensures value { option_map parts result ≡ event_front bytes.now }
+        ensures long { IfSome result (λ view. HEAD_SIZE + length view.payload.now ≤ length bytes.now) }
+    {
+        let head = Head::read(bytes)?;
+        let rest = &bytes[HEAD_SIZE..];
+        let len = head.len as usize;
+        if rest.len() < len {
+            return None;
+        }
+        Some(EventView {
+            kind: head.kind,
+            source: head.source,
+            scn: head.scn,
+            key: head.key,
+            payload: &rest[..len],
+        })
+    }
+
+    /// The event that begins at a place, and the place after it. `None` comes exactly where no event stands there
+    /// whole.
+    pub fn at(bytes: &'a [u8], place: usize) -> Option<(EventView<'a>, usize)>
+        ensures found { IfSome result (λ x. IsView x.0 × StandsAt bytes.now place (event_bytes (event_of x.0)) x.1) }
+        ensures none { IfNone result ((event : Event) (next : ℕ) → IsEvent event → StandsAt bytes.now place (event_bytes event) next → ⊥) }
+    {
+        let view = EventView::front(tail(bytes, place))?;
+        Some((view, place + HEAD_SIZE + view.payload.len()))
+    }
+}

@@ -1,0 +1,92 @@
+ghost use Rattle.std.specs.Prelude.{◌≡◌, ◌+◌, ◌≤◌, ◌<◌, ◌++◌, length, OnOk, OnErr, vec_len, vec_capacity};
+ghost use Rattle.bus_types.specs.Change.{accepted, change_size, changes_size};
+ghost use Rattle.bus_types.specs.Cut.{cut};
+ghost use Rattle.bus_types.specs.Window.{span_size};
+ghost use Rattle.event_codec.specs.Bytes.{event_bytes, changes_bytes, window_bytes};
+ghost use Rattle.event_codec.specs.Writing.{accepted_bytes};
+
+use crate::head::{DELETE, Head, PUT};
+use crate::mark::bytes_of_mark;
+use bus_types::{Accepts, Change, Everything, Key, NoMemory, Window};
+
+// Appends bytes for which there is room.
+fn append(bytes: &[u8], out: &mut Vec<u8>)
+    requires { vec_len out.old + length bytes.now ≤ vec_capacity out.old }
+    ensures items { out.new.items ≡ out.old.items ++ bytes.now }
+    ensures len { vec_len out.new ≡ vec_len out.old + length bytes.now }
+    ensures capacity { vec_capacity out.old ≤ vec_capacity out.new }
+{
+    out.extend_from_slice(bytes).unwrap();
+}
+
+// Appends a change as an event. There is room for it.
+fn append_event(scn: u64, change: &Change, out: &mut Vec<u8>)
+    requires { vec_len out.old + change_size change.now ≤ vec_capacity out.old }
+    ensures items { out.new.items ≡ out.old.items ++ event_bytes (record { scn = scn; change = change.now }) }
+    ensures len { vec_len out.new ≡ vec_len out.old + change_size change.now }
+    ensures capacity { vec_capacity out.old ≤ vec_capacity out.new }
+{
+    let source = change.source;
+    let Key::Long(key) = change.key;
+    match &change.put {
+        None => append(&Head::new(DELETE, source, scn, key, 0).bytes(), out),
+        Some(payload) => {
+            let payload = payload.bytes();
+            let head = Head::new(PUT, source, scn, key, payload.len() as u32);
+            append(&head.bytes(), out);
+            append(payload, out);
+        }
+    }
+}
+
+// Appends a change as an event where a filter accepts it. There is room for it.
+fn append_accepted<F: Accepts>(scn: u64, change: &Change, filter: &F, out: &mut Vec<u8>)
+    requires { vec_len out.old + change_size change.now ≤ vec_capacity out.old }
+    ensures items { out.new.items ≡ out.old.items ++ accepted_bytes (F.test filter.now) scn change.now }
+    ensures len { vec_len out.new ≤ vec_len out.old + change_size change.now }
+    ensures capacity { vec_capacity out.old ≤ vec_capacity out.new }
+{
+    if filter.accepts(change.source, &change.key) {
+        append_event(scn, change, out);
+    }
+}
+
+// Appends the accepted changes as events. There is room for all changes.
+fn append_changes<F: Accepts>(scn: u64, changes: &[Change], filter: &F, out: &mut Vec<u8>)
+    requires { vec_len out.old + changes_size changes.now ≤ vec_capacity out.old }
+    ensures items { out.new.items ≡ out.old.items ++ changes_bytes scn (accepted (F.test filter.now) changes.now) }
+    ensures len { vec_len out.new ≤ vec_len out.old + changes_size changes.now }
+    ensures capacity { vec_capacity out.old ≤ vec_capacity out.new }
+{
+    for change in changes {
+        append_accepted(scn, change, filter, out);
+    }
+}
+
+/// Appends the bytes of a window: its events in order and then its mark. After want of memory the output is as before.
+#[tactic(auto, using(bus_types::proofs::TableLaws::cut_everything))]
+pub fn write_window(window: &Window, out: &mut Vec<u8>) -> Result<(), NoMemory>
+    ensures ok { OnOk result (out.new.items ≡ out.old.items ++ window_bytes window.now) }
+    ensures err { OnErr result (out.new.items ≡ out.old.items) }
+    ensures full { OnErr result (vec_capacity out.old < vec_len out.old + span_size window.now) }
+{
+    write_filtered(window, &Everything, out)
+}
+
+/// Appends the bytes of what a filter leaves of a window: the accepted events in order, and always the mark. After want
+/// of memory the output is as before.
+pub fn write_filtered<F: Accepts>(
+    window: &Window,
+    filter: &F,
+    out: &mut Vec<u8>,
+) -> Result<(), NoMemory>
+    ensures ok { OnOk result (out.new.items ≡ out.old.items ++ window_bytes (cut (F.test filter.now) window.now)) }
+    ensures err { OnErr result (out.new.items ≡ out.old.items) }
+    ensures full { OnErr result (vec_capacity out.old < vec_len out.old + span_size window.now) }
+{
+    out.reserve(window.size() as usize)?;
+    let scn = window.scn();
+    append_changes(scn, window.changes(), filter, out);
+    append(&bytes_of_mark(scn, window.prev()), out);
+    Ok(())
+}
