@@ -8,3 +8,4 @@ pub mod WordTexts
 pub mod LineTexts
 pub mod LineLaws
 pub mod Consumers
+pub mod WrittenTexts

@@ -1,13 +1,16 @@
 -- Lines and their texts.
-use Rattle.std.proofs.Common.{◌≡◌, ℕ, ◌<◌, true, false, ◌==◌, inl, inr, nat_le, List, [], ◌∷◌, length, codes, Some, None, Result, Ok, Err, refl, sym, ap, ◌∙◌, arith, lit<}
-use Rattle.std.specs.Prelude.{bytes_eq, IfOk, IsErrOf}
+use Rattle.std.proofs.Common.{◌≡◌, ℕ, ◌^◌, ◌<◌, Bool, true, false, ◌==◌, inl, inr, nat_le, List, [], ◌∷◌, length, map, codes, Option, Some, None, Result, Ok, Err, refl, sym, ap, ◌∙◌, arith, lit<}
+use Rattle.std.specs.Prelude.{decimal, bytes_eq, IfOk, IsErrOf}
 use Rattle.std.specs.List.{list_any, AllByRecursion, join_with_byte}
-use Rattle.std.proofs.lemmas.Bool.{leb-true, le-leb}
-use Rattle.std.proofs.lemmas.List.{length-map}
+use Rattle.std.proofs.lemmas.Bool.{leb-true, le-leb, ne_eqb}
+use Rattle.std.proofs.lemmas.Bool.Decides.{nat_tests}
+use Rattle.std.proofs.lemmas.Fmt.{decimal_nonempty}
+use Rattle.std.proofs.lemmas.List.{length-append, length-map}
 use Rattle.std.proofs.lemmas.List.Splits.{join_with_byte-slice_split}
 use Rattle.std.proofs.lemmas.Option.{cond_some}
 use Rattle.std.proofs.lemmas.Slice.Eq.{bytes_eq-Decides}
 use Rattle.bus_types.specs.declared.change.Change.{Change}
+use Rattle.bus_types.specs.Change.{IsChange, AreChanges}
 use Rattle.trace_script.specs.declared.fault.LineFault.{LineFault}
 use Rattle.trace_script.specs.declared.fault.LineFault.TheVariants.{BadLine, NoMemory}
 use Rattle.trace_script.specs.declared.line.Line.{Line}
@@ -140,6 +143,54 @@ line_taken text line h =
         | inr full ↦ text_taken text line (words_taken (words_of text) line full.1)
       ]
     ]
+
+-- ---- words of which one is empty
+
+abbrev has_empty : List (List ℕ) → Bool
+has_empty words = list_any (λ word. length word == 0) words
+
+is_full : (word : List ℕ) → 0 < length word → (length word == 0) ≡ false
+is_full word some = ne_eqb (length word) 0 (λ e. omega arith)
+
+is_full-decimal : (n : ℕ) → n < 2 ^ 64 → (length (decimal n) == 0) ≡ false
+is_full-decimal n fits = is_full (decimal n) (decimal_nonempty n fits)
+
+is_full-name : (name : List ℕ) → IsName name → (length name == 0) ≡ false
+is_full-name name named = is_full name (grind (arith, nat_tests))
+
+is_full-change : (c : Change) → IsChange c → (length (change_text c) == 0) ≡ false
+is_full-change c within =
+    let small = within.source in
+    let some = decimal_nonempty c.source (omega arith) in
+    is_full (change_text c) (simp length-append (omega arith))
+
+are_full-changes : (changes : List Change) → AreChanges changes → has_empty (map change_text changes) ≡ false
+are_full-changes [] within = refl
+are_full-changes (c ∷ cs) within = rw (is_full-change c within.0) (are_full-changes cs within.1)
+
+are_full : (line : Line) → IsLine line → has_empty (line_words line) ≡ false
+are_full Blank h = refl
+are_full (Consumer name) h = rw (is_full-name name h) refl
+are_full (Commit scn changes) h = rw (is_full-decimal scn h.0) (are_full-changes changes h.2)
+are_full (Feed count) h = rw (is_full-decimal count (omega arith)) refl
+are_full (Poll name max) h = rw (is_full-name name h.0, is_full-decimal max (omega arith)) refl
+are_full (Show name) h = rw (is_full-name name h) refl
+
+taken_full : (words : List (List ℕ)) (line : Line) → HasWords words line → has_empty words ≡ false
+taken_full words Blank h = absurd h
+taken_full words (Consumer name) h = rw h.1 (are_full (Consumer name) h.0)
+taken_full words (Commit scn changes) h = rw h.1 (are_full (Commit scn changes) h.0)
+taken_full words (Feed count) h = rw h.1 (are_full (Feed count) h.0)
+taken_full words (Poll name max) h = rw h.1 (are_full (Poll name max) h.0)
+taken_full words (Show name) h = rw h.1 (are_full (Show name) h.0)
+
+none_taken : (read : Option Line) → ((line : Line) → read ≡ Some line → ⊥) → read ≡ None
+none_taken None h = refl
+none_taken (Some line) h = absurd (h line refl)
+
+-- such words are no line
+pub no_line : (words : List (List ℕ)) → list_any (λ word. length word == 0) words ≡ true → words_line words ≡ None
+no_line words empty = none_taken (words_line words) (λ line read. cc (empty, taken_full words line (words_taken words line read)))
 
 -- ---- what is spelled so is read
 

@@ -5,3 +5,4 @@ pub mod Lines
 pub mod Spelling
 pub mod Reading
 pub mod Run
+pub mod Writing

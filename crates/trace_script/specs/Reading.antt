@@ -1,7 +1,5 @@
 -- A call that reads, against a function that says what is read.
 use Rattle.std.specs.Prelude.{◌≡◌, Option, Some, None, Result, Ok, Err}
-use Rattle.bus_types.specs.declared.payload.PayloadFault.{PayloadFault}
-use Rattle.bus_types.specs.declared.payload.PayloadFault.TheVariants as payloads
 use Rattle.trace_script.specs.declared.fault.LineFault.{LineFault}
 use Rattle.trace_script.specs.declared.fault.LineFault.TheVariants.{BadLine, NoMemory}
 
@@ -14,8 +12,3 @@ Refuses NoMemory defined = Unit {0}
 abbrev pub Reads : {X Y : Type 0} → (X → Y) → Result X LineFault → Option Y → Type 0
 Reads view (Ok x) defined = defined ≡ Some (view x)
 Reads view (Err fault) defined = Refuses fault defined
-
--- what a fault of a payload is to its line
-abbrev pub fault_of : PayloadFault → LineFault
-fault_of payloads.TooLong = BadLine
-fault_of payloads.NoMemory = NoMemory

@@ -48,6 +48,15 @@ IsLine (Feed count) = (1 ≤ count) × (count ≤ 1000000)
 IsLine (Poll name max) = IsName name × (1 ≤ max) × (max ≤ 16777216)
 IsLine (Show name) = IsName name
 
+-- the numbers of a line are in the ranges of the grammar, where these are narrower than those of their types
+abbrev pub IsInRange : Line → Type 0
+IsInRange Blank = Unit {0}
+IsInRange (Consumer name) = Unit {0}
+IsInRange (Commit scn changes) = 0 < length changes
+IsInRange (Feed count) = (1 ≤ count) × (count ≤ 1000000)
+IsInRange (Poll name max) = (1 ≤ max) × (max ≤ 16777216)
+IsInRange (Show name) = Unit {0}
+
 -- a blank line is empty or a comment, and any other line is its words
 abbrev pub Spells : List ℕ → Line → Type 0
 Spells text Blank = (is_blank text ≡ true) × (list_any (λ b. b == 13) text ≡ false)

@@ -5,7 +5,7 @@ ghost use Rattle.hex.specs.Hex.{decode_of};
 ghost use Rattle.trace_script.specs.Reading.{Reads};
 ghost use Rattle.trace_script.specs.Words.{cut_at, is_lower_hex, key_of, payload_of, put_or_delete, change_of, changes_of, number_of};
 
-use crate::fault::{LineFault, payload_fault};
+use crate::fault::LineFault;
 use crate::number::number;
 use bus_types::{Change, Key, Payload};
 use hex::FromHexError;
@@ -102,7 +102,7 @@ fn payload(alloc: Global, digits: &[u8]) -> Result<Payload, LineFault>
     ensures { Reads (λ payload. payload) result (payload_of digits.now) }
 {
     let bytes = hex_bytes(alloc, digits)?;
-    Payload::new(alloc, &bytes).map_err(payload_fault)
+    Payload::from_vec(bytes).ok_or(LineFault::BadLine)
 }
 
 fn hex_bytes(alloc: Global, digits: &[u8]) -> Result<Vec<u8>, LineFault>

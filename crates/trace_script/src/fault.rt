@@ -1,8 +1,7 @@
 ghost use Rattle.std.specs.Prelude.{◌≡◌};
 ghost use Rattle.trace_script.specs.declared.fault.LineFault.TheVariants as faults;
-ghost use Rattle.trace_script.specs.Reading.{fault_of};
 
-use bus_types::{NoMemory as OutOfMemory, PayloadFault};
+use bus_types::NoMemory as OutOfMemory;
 use std::alloc::{AllocError, AllocFailed};
 
 /// Why a line was not read.
@@ -35,15 +34,5 @@ impl From<OutOfMemory> for LineFault {
 
     fn from(_: OutOfMemory) -> Self {
         LineFault::NoMemory
-    }
-}
-
-/// A payload that is too long makes its line a bad one.
-pub(crate) fn payload_fault(fault: PayloadFault) -> LineFault
-    ensures { result ≡ fault_of fault }
-{
-    match fault {
-        PayloadFault::TooLong => LineFault::BadLine,
-        PayloadFault::NoMemory => LineFault::NoMemory,
     }
 }

@@ -1,4 +1,4 @@
-ghost use Rattle.std.specs.Prelude.{◌≡◌, ◌==◌, ◌∷◌, false, bytes_eq, codes, IfOk, IsErrOf, map};
+ghost use Rattle.std.specs.Prelude.{◌≡◌, ◌==◌, ◌∷◌, false, bytes_eq, codes, length, IfOk, IsErrOf, map};
 ghost use Rattle.std.specs.List.{list_any};
 ghost use Rattle.trace_script.specs.Reading.{Reads};
 ghost use Rattle.trace_script.specs.declared.line.Line.{Line};
@@ -31,7 +31,7 @@ pub fn read_line(alloc: Global, text: &[u8]) -> Result<Line, LineFault>
     text_line(alloc, text)
 }
 
-#[tactic(auto, unfolding(crate::specs::Lines::line_of))]
+#[tactic(auto, using(crate::proofs::LineTexts::no_line), unfolding(crate::specs::Lines::line_of))]
 fn text_line(alloc: Global, text: &[u8]) -> Result<Line, LineFault>
     ensures { Reads (λ line. line) result (line_of text.now) }
 {
@@ -40,6 +40,9 @@ fn text_line(alloc: Global, text: &[u8]) -> Result<Line, LineFault>
     }
     if is_blank(text) {
         return Ok(Line::Blank);
+    }
+    if has_empty_word(text) {
+        return Err(LineFault::BadLine);
     }
     let words = words(alloc, text)?;
     words_line(alloc, &words)
@@ -59,6 +62,13 @@ fn is_blank(text: &[u8]) -> bool
         [] => true,
         [first, ..] => *first == b'#',
     }
+}
+
+/// Whether a space stands at an end, or beside a space. No line is spelled so, and such a text may have many parts.
+fn has_empty_word(text: &[u8]) -> bool
+    ensures { result ≡ list_any (λ word. length word == 0) (words_of text.now) }
+{
+    text.split(|b| *b == b' ').any(|word| word.is_empty())
 }
 
 /// The parts of the text between spaces, of which an empty one is no word.

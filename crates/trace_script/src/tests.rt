@@ -1,5 +1,8 @@
+ghost use Rattle.std.specs.Prelude.{IfOk};
+ghost use Rattle.trace_script.specs.Spelling.{IsInRange};
+
 use super::*;
-use bus_types::{Change, Changes, Key};
+use bus_types::{Change, Changes, Key, NoMemory, Payload};
 use std::alloc::{AllocError, Global};
 use std::test::*;
 
@@ -149,5 +152,86 @@ fn a_payload_has_at_most_65536_bytes(rt: HostRuntime) -> Result<(), Fail> {
     assert!(rt; read_line(alloc, &zeros(alloc, 65_536)?).is_ok());
     let longer = read_line(alloc, &zeros(alloc, 65_537)?);
     assert!(rt; matches!(longer, Err(LineFault::BadLine)));
+    Ok(())
+}
+
+/// What is written of a line behind `> `.
+fn written(alloc: Global, line: &Line) -> Result<Vec<u8>, NoMemory>
+    requires { IsInRange line.now }
+{
+    let mut out = Vec::from_slice(alloc, b"> ")?;
+    write_line(line, &mut out)?;
+    Ok(out)
+}
+
+/// A commit of a put and a delete.
+fn put_and_delete(alloc: Global) -> Result<Line, NoMemory>
+    ensures { IfOk result IsInRange }
+{
+    let mut changes = Vec::new(alloc);
+    changes.push(Change {
+        source: 65535,
+        key: Key::Long(u64::MAX),
+        put: Payload::new(alloc, b"\x0a\xff").ok(),
+    })?;
+    changes.push(Change {
+        source: 0,
+        key: Key::Long(0),
+        put: None,
+    })?;
+    Ok(Line::Commit {
+        scn: 9,
+        changes: Changes::new(changes),
+    })
+}
+
+#[test]
+fn a_line_is_written_behind_what_was_there(rt: HostRuntime) -> Result<(), Fail> {
+    let alloc = rt.alloc();
+    let name = Name::new(b"c1").ok_or("a name")?;
+    for (written, text) in [
+        (written(alloc, &Line::Blank), b"> ".as_slice()),
+        (
+            written(alloc, &Line::Consumer { name }),
+            b"> consumer c1 all",
+        ),
+        (
+            written(alloc, &put_and_delete(alloc)?),
+            b"> commit 9 65535/18446744073709551615=0aff 0/0-",
+        ),
+        (written(alloc, &Line::Feed(1_000_000)), b"> feed 1000000"),
+        (written(alloc, &Line::Poll { name, max: 1 }), b"> poll c1 1"),
+        (written(alloc, &Line::Show(name)), b"> show c1"),
+    ] {
+        assert_eq!(rt; written?.as_slice(), text);
+    }
+    Ok(())
+}
+
+/// What is written of the line that the text spells.
+fn written_again(alloc: Global, text: &[u8]) -> Result<Vec<u8>, LineFault> {
+    let line = read_line(alloc, text)?;
+    let mut out = Vec::new(alloc);
+    write_line(&line, &mut out)?;
+    Ok(out)
+}
+
+#[test]
+fn each_kind_of_line_is_written_as_it_was_read(rt: HostRuntime) -> Result<(), Fail> {
+    for text in [
+        b"".as_slice(),
+        b"consumer abcdefghijklmnop all",
+        b"commit 18446744073709551615 1/2= 1/2- 0/0=00",
+        b"feed 1",
+        b"poll 0_z 16777216",
+        b"show all",
+    ] {
+        let again = written_again(rt.alloc(), text).ok().ok_or("a line")?;
+        assert_eq!(rt; again.as_slice(), text);
+    }
+    let comment = written_again(rt.alloc(), b"# a comment")
+        .ok()
+        .ok_or("a line")?;
+    assert_eq!(rt; comment.as_slice(), b"".as_slice());
     Ok(())
 }

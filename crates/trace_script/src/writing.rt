@@ -1,0 +1,218 @@
+ghost use Rattle.std.specs.Prelude.{◌≡◌, ◌<◌, ◌≤◌, ◌∷◌, ◌++◌, length, codes, decimal, flat_map, Some, OnOk, OnErr};
+ghost use Rattle.std.specs.List.{AllByRecursion};
+ghost use Rattle.hex.specs.Hex.{encode_lower};
+ghost use Rattle.bus_types.specs.Change.{IsChange, AreChanges};
+ghost use Rattle.bus_types.specs.Script.{key_text};
+ghost use Rattle.bus_types.specs.declared.limits.TheConstants.{MAX_PAYLOAD};
+ghost use Rattle.trace_script.specs.Lines.{line_of};
+ghost use Rattle.trace_script.specs.Spelling.{AreBytesOf, change_text, line_text, IsLine, IsInRange, Spells};
+ghost use Rattle.trace_script.specs.Writing.{Appends};
+
+use crate::line::Line;
+use crate::name::Name;
+use bus_types::{Change, Key, NoMemory};
+use itoa::Buffer;
+
+/// Appends the text of a line, without a LF; a blank line is the empty text. What is written is read back as the
+/// same line. After want of memory the output is as before.
+pub fn write_line(line: &Line, out: &mut Vec<u8>) -> Result<(), NoMemory>
+    requires { IsInRange line.now }
+    ensures ok { OnOk result (out.new.items ≡ out.old.items ++ line_text line.now) }
+    ensures spelled { OnOk result (Spells (line_text line.now) line.now) }
+    ensures read_back { line_of (line_text line.now) ≡ Some line.now }
+    ensures err { OnErr result (out.new.items ≡ out.old.items) }
+{
+    out.reserve(room_for(line))?;
+    let before = out.len();
+    let Ok(()) = append_line(line, out) else {
+        out.truncate(before);
+        return Err(NoMemory);
+    };
+    Ok(())
+}
+
+/// At least as many bytes as the text of the line takes. It reads the whole line, and so shows that the line's
+/// numbers, names and payloads are in their ranges.
+fn room_for(line: &Line) -> usize
+    requires { IsInRange line.now }
+    ensures { IsLine line.now }
+{
+    match line {
+        Line::Blank => 0,
+        Line::Consumer { name } => 13 + name.bytes().len(),
+        Line::Commit { scn, changes } => {
+            let _scn = *scn;
+            room_for_changes(changes.items()).saturating_add(27)
+        }
+        Line::Feed(_) => 12,
+        Line::Poll { name, .. } => 14 + name.bytes().len(),
+        Line::Show(name) => 5 + name.bytes().len(),
+    }
+}
+
+fn room_for_changes(changes: &[Change]) -> usize
+    ensures within { AreChanges changes.now }
+    ensures bytes { AllByRecursion (λ c. AreBytesOf c.put) changes.now }
+{
+    let mut room: usize = 0;
+    for change in changes {
+        room = room.saturating_add(room_for_change(change));
+    }
+    room
+}
+
+/// A change takes 23 bytes and its payload as an event, and at most 28 and two digits for each byte of the payload as
+/// a text behind a space.
+fn room_for_change(change: &Change) -> usize
+    ensures within { IsChange change.now }
+    ensures bytes { AreBytesOf change.now.put }
+{
+    let room = change.size() as usize + 5;
+    match &change.put {
+        None => room,
+        Some(payload) => room + count(payload.bytes()),
+    }
+}
+
+fn count(bytes: &[u8]) -> usize
+    ensures count { result ≡ length bytes.now }
+    ensures bytes { AllByRecursion (λ b. b < 256) bytes.now }
+{
+    bytes.len()
+}
+
+fn append_line(line: &Line, out: &mut Vec<u8>) -> Result<(), NoMemory>
+    ensures { Appends result (line_text line.now) out.old.items out.new.items }
+{
+    match line {
+        Line::Blank => Ok(()),
+        Line::Consumer { name } => append_consumer(name, out),
+        Line::Commit { scn, changes } => append_commit(*scn, changes.items(), out),
+        Line::Feed(count) => append_feed(*count, out),
+        Line::Poll { name, max } => append_poll(name, *max, out),
+        Line::Show(name) => append_show(name, out),
+    }
+}
+
+/// `consumer NAME all`
+fn append_consumer(name: &Name, out: &mut Vec<u8>) -> Result<(), NoMemory>
+    ensures { Appends result (codes "consumer " ++ name.now ++ codes " all") out.old.items out.new.items }
+{
+    out.extend_from_slice(b"consumer ")?;
+    out.extend_from_slice(name.bytes())?;
+    out.extend_from_slice(b" all")?;
+    Ok(())
+}
+
+/// `feed N`
+fn append_feed(count: u64, out: &mut Vec<u8>) -> Result<(), NoMemory>
+    ensures { Appends result (codes "feed " ++ decimal count) out.old.items out.new.items }
+{
+    out.extend_from_slice(b"feed ")?;
+    append_number(count, out)
+}
+
+/// `poll NAME MAX`
+fn append_poll(name: &Name, max: u32, out: &mut Vec<u8>) -> Result<(), NoMemory>
+    ensures { Appends result (codes "poll " ++ name.now ++ codes " " ++ decimal max) out.old.items out.new.items }
+{
+    out.extend_from_slice(b"poll ")?;
+    out.extend_from_slice(name.bytes())?;
+    out.extend_from_slice(b" ")?;
+    append_number(u64::from(max), out)
+}
+
+/// `show NAME`
+fn append_show(name: &Name, out: &mut Vec<u8>) -> Result<(), NoMemory>
+    ensures { Appends result (codes "show " ++ name.now) out.old.items out.new.items }
+{
+    out.extend_from_slice(b"show ")?;
+    out.extend_from_slice(name.bytes())?;
+    Ok(())
+}
+
+/// `commit SCN CHANGE ..`
+#[tactic(auto, using(crate::proofs::WrittenTexts::appending))]
+fn append_commit(scn: u64, changes: &[Change], out: &mut Vec<u8>) -> Result<(), NoMemory>
+    ensures { Appends result (codes "commit " ++ decimal scn ++ flat_map (λ c. 32 ∷ change_text c) changes.now) out.old.items out.new.items }
+{
+    out.extend_from_slice(b"commit ")?;
+    append_number(scn, out)?;
+    append_changes(changes, out)
+}
+
+/// Each change, a space before it.
+fn append_changes(changes: &[Change], out: &mut Vec<u8>) -> Result<(), NoMemory>
+    ensures { Appends result (flat_map (λ c. 32 ∷ change_text c) changes.now) out.old.items out.new.items }
+{
+    for change in changes {
+        append_change(change, out)?;
+    }
+    Ok(())
+}
+
+/// A space, and `S/K=HEX` or `S/K-`.
+fn append_change(change: &Change, out: &mut Vec<u8>) -> Result<(), NoMemory>
+    ensures { Appends result (32 ∷ change_text change.now) out.old.items out.new.items }
+{
+    append_row(change.source, &change.key, out)?;
+    match &change.put {
+        None => append_delete(out),
+        Some(payload) => append_payload(payload.bytes(), out),
+    }
+}
+
+/// A space, and `S/K`.
+fn append_row(source: u16, key: &Key, out: &mut Vec<u8>) -> Result<(), NoMemory>
+    ensures { Appends result (32 ∷ decimal source ++ codes "/" ++ key_text key.now) out.old.items out.new.items }
+{
+    out.extend_from_slice(b" ")?;
+    append_number(u64::from(source), out)?;
+    out.extend_from_slice(b"/")?;
+    append_key(key, out)
+}
+
+fn append_key(key: &Key, out: &mut Vec<u8>) -> Result<(), NoMemory>
+    ensures { Appends result (key_text key.now) out.old.items out.new.items }
+{
+    match *key {
+        Key::Long(number) => append_number(number, out),
+    }
+}
+
+/// `-`
+fn append_delete(out: &mut Vec<u8>) -> Result<(), NoMemory>
+    ensures { Appends result (codes "-") out.old.items out.new.items }
+{
+    out.extend_from_slice(b"-")?;
+    Ok(())
+}
+
+/// `=HEX`
+fn append_payload(bytes: &[u8], out: &mut Vec<u8>) -> Result<(), NoMemory>
+    requires { length bytes.now ≤ MAX_PAYLOAD }
+    ensures { Appends result (codes "=" ++ encode_lower bytes.now) out.old.items out.new.items }
+{
+    out.extend_from_slice(b"=")?;
+    append_hex(bytes, out)
+}
+
+/// The number in decimal.
+fn append_number(number: u64, out: &mut Vec<u8>) -> Result<(), NoMemory>
+    ensures { Appends result (decimal number) out.old.items out.new.items }
+{
+    let mut digits = Buffer::new();
+    out.extend_from_slice(digits.format(number).as_bytes())?;
+    Ok(())
+}
+
+/// Two lower-case digits for each byte.
+fn append_hex(bytes: &[u8], out: &mut Vec<u8>) -> Result<(), NoMemory>
+    requires { length bytes.now ≤ MAX_PAYLOAD }
+    ensures { Appends result (encode_lower bytes.now) out.old.items out.new.items }
+{
+    let start = out.len();
+    out.resize(start + 2 * bytes.len(), 0)?;
+    hex::encode_to_slice(bytes, &mut out[start..]).unwrap();
+    Ok(())
+}
