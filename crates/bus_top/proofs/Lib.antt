@@ -3,3 +3,4 @@ pub mod Sound
 pub mod Streams
 pub mod Pieces
 pub mod Turns
+pub mod Replies

@@ -1,21 +1,21 @@
 -- Sessions: lines, ends of lines and pieces that are taken.
-use Rattle.std.proofs.Common.{◌≡◌, ℕ, suc, eqb, get_or, ◌+◌, ◌<◌, ◌≤◌, Bool, true, false, List, [], ◌∷◌, ◌++◌, Option, Some, None, Result, Ok, Err, length, take, drop, ◌-◌, refl, sym, ap, ◌∙◌, subst, append_assoc, append-nil, arith}
+use Rattle.std.proofs.Common.{◌≡◌, ℕ, suc, eqb, get_or, ◌+◌, ◌<◌, Bool, true, false, List, [], ◌∷◌, ◌++◌, Some, None, Result, Ok, Err, length, take, drop, ◌-◌, refl, sym, ap, ◌∙◌, subst, append_assoc, append-nil, arith}
 use Rattle.std.specs.Prelude.{Vec}
 use Rattle.std.specs.Global.{Global}
 use Rattle.std.specs.Io.{StartsWith}
 use Rattle.std.proofs.lemmas.Bool.{eqb-true, eqb-false}
-use Rattle.std.proofs.lemmas.List.{length-append, length-take, get_or-take, drop_more, take_rest, take_all, take-append-drop}
+use Rattle.std.proofs.lemmas.List.{length-append, length-take, get_or-take, drop_more, take_rest, take-append-drop}
 use Rattle.memchr.specs.Find.{IsFirstByte, is_byte}
-use Rattle.trace_script.specs.Run.{RawLine, lines_of, IsPart, IsWhole, Played, Ending, before, ended, played}
+use Rattle.trace_script.specs.Run.{RawLine, lines_of, IsPart, Played, before, ended}
 use Rattle.trace_script.specs.Run.Ending.{Finished, BadAt, TooLongAt}
-use Rattle.trace_script.proofs.LineLaws.{before-before, lines_of-line, lines_of-last, long_part, IsWhole-line, IsWhole-append, IsPart-append}
+use Rattle.trace_script.proofs.LineLaws.{lines_of-line, lines_of-last, long_part, IsWhole-line, IsWhole-append, IsPart-append}
 use Rattle.bus_top.specs.declared.bus.Bus.{Bus}
 use Rattle.bus_top.specs.declared.session.Place.{Place}
 use Rattle.bus_top.specs.declared.session.Session.{Session}
 use Rattle.bus_top.specs.declared.session.Stop.{Stop}
 use Rattle.bus_top.specs.declared.session.Stop.TheVariants.{BadLine, TooLong, NoMemory}
-use Rattle.bus_top.specs.Bus.{state_of, IsSound}
-use Rattle.bus_top.specs.Session.{SameRun, Stops, run_lines, run_bytes, TakesLine, IsWithin, IsSession, TookSome, is_long, Holds, TakesEnd, Takes, Finishes}
+use Rattle.bus_top.specs.Bus.{state_of}
+use Rattle.bus_top.specs.Session.{SameRun, Stops, run_lines, run_bytes, TakesLine, IsSession, TookSome, Holds, TakesEnd, Takes, Finishes}
 use Rattle.bus_top.proofs.Streams.{before-ended, no_line, starts}
 
 -- a run that stops, seen from another text and other runs that are the same

@@ -92,21 +92,20 @@ reached false false floor end run rest e = e
 reply_is : (ws : List Span) (end scn max : ℕ) (run : List Span) → Windows run ≡ stream ws 0 end scn everything max → run ≡ longest_run most_windows max (cuts everything (windows_between scn end ws))
 reply_is ws end scn max run e = fitting_run max _ run (reached _ _ _ _ run _ e)
 
--- they are at most so many
-pub reply_few : (ws : List Span) (end scn max : ℕ) (run : List Span) → Windows run ≡ stream ws 0 end scn everything max → length run ≤ most_windows
-reply_few ws end scn max run e =
-    rw (reply_is ws end scn max run e) ((longest_run_is most_windows max (cuts everything (windows_between scn end ws))).few)
+-- they are a front of the windows behind the SCN asked for
+pub reply_front : (ws : List Span) (end scn max : ℕ) (run : List Span) → Windows run ≡ stream ws 0 end scn everything max → run ≡ take (length run) (windows_between scn end ws)
+reply_front ws end scn max run e =
+    let stretch = windows_between scn end ws in
+    let longest = subst (IsLongestRun most_windows max (cuts everything stretch)) (sym (reply_is ws end scn max run e)) (longest_run_is most_windows max (cuts everything stretch)) in
+    longest.front ∙ ap (take (length run)) (cuts_everything stretch)
 
 -- a consumer that follows them still follows the source
 pub reply_follows : (ws : List Span) (end max : ℕ) (run : List Span) (old new : Consumer) → IsTimeline ws → IsFollowing ws end old → Windows run ≡ stream ws 0 end old.scn everything max → new.rows.entries ≡ rows_after old.rows.entries (flat_map (λ (w : Span). w.changes) run) → new.scn ≡ end_from old.scn run → IsFollowing ws end new
 reply_follows ws end max run old new t h e r s =
-    let reply = reply_is ws end old.scn max run e in
-    let stretch = windows_between old.scn end ws in
-    let longest = subst (IsLongestRun most_windows max (cuts everything stretch)) (sym reply) (longest_run_is most_windows max (cuts everything stretch)) in
-    let front = longest.front ∙ ap (take (length run)) (cuts_everything stretch) in
+    let front = reply_front ws end old.scn max run e in
     record {
       behind = (let b = run_within 0 old.scn end (length run) ws run t h.behind front in omega arith);
-      rows = r ∙ ap (λ (rows : Rows). rows_after rows (flat_map (λ (w : Span). w.changes) run)) h.rows ∙ view_replies everything most_windows max old.scn end ws run t reply ∙ sym (ap (view everything ws) s);
+      rows = r ∙ ap (λ (rows : Rows). rows_after rows (flat_map (λ (w : Span). w.changes) run)) h.rows ∙ view_replies everything most_windows max old.scn end ws run t (reply_is ws end old.scn max run e) ∙ sym (ap (view everything ws) s);
     }
 
 -- ---- the bus

@@ -1,15 +1,15 @@
 -- Runs over lines that come one after the other.
-use Rattle.std.proofs.Common.{◌≡◌, ℕ, ◌+◌, ◌<◌, ◌≤◌, Bool, true, false, cond, List, [], ◌∷◌, ◌++◌, Option, Some, None, length, refl, sym, ap, ◌∙◌, subst, append_assoc, append-nil, arith}
+use Rattle.std.proofs.Common.{◌≡◌, ℕ, ◌+◌, ◌≤◌, Bool, true, false, List, [], ◌∷◌, ◌++◌, Some, None, length, refl, sym, ap, ◌∙◌, append-nil, arith}
 use Rattle.std.specs.Prelude.{nat_le, nat_lt, ◌||◌}
 use Rattle.std.specs.Io.{StartsWith}
 use Rattle.std.proofs.lemmas.Bool.{leb-false, ltb-false}
 use Rattle.std.proofs.lemmas.List.{take_at}
 use Rattle.bus_types.specs.Script.{State}
-use Rattle.trace_script.specs.Run.{RawLine, lines_of, IsPart, IsWhole, most_lines, longest_line, longest_input, is_too_long, Played, Ending, before, ended, played, text_step}
+use Rattle.trace_script.specs.Run.{RawLine, most_lines, longest_line, longest_input, is_too_long, Ending, before, ended, played, text_step}
 use Rattle.trace_script.specs.Run.Ending.{Finished, BadAt, TooLongAt}
 use Rattle.bus_top.specs.declared.session.Place.{Place}
 use Rattle.bus_top.specs.Session.{is_long}
-use Rattle.trace_script.proofs.LineLaws.{before-before, lines_of-line, lines_of-last, long_part, IsWhole-line, IsWhole-append}
+use Rattle.trace_script.proofs.LineLaws.{before-before}
 
 -- a line that is too long stops a run
 pub long_line : (s : State) (count used : ℕ) (raw : RawLine) (ls : List RawLine) → is_too_long count used raw ≡ true → played s count used (raw ∷ ls) ≡ ended (TooLongAt (count + 1))

@@ -1,21 +1,18 @@
 -- Turns of a run: what was read and written so far, and what a status then says of the whole script.
-use Rattle.std.proofs.Common.{◌≡◌, ℕ, ◌+◌, ◌<◌, ◌≤◌, List, [], ◌∷◌, ◌++◌, Option, Some, None, Result, Ok, Err, length, take, drop, refl, sym, ap, ◌∙◌, subst, append_assoc, append-nil, arith}
-use Rattle.std.specs.Prelude.{IfSome}
+use Rattle.std.proofs.Common.{◌≡◌, ℕ, List, [], ◌++◌, Option, Some, None, Result, Ok, Err, length, take, drop, refl, sym, ap, ◌∙◌, subst, append_assoc, append-nil, arith}
 use Rattle.std.specs.Io.{StartsWith}
 use Rattle.std.specs.Io.KnownBytes.{Appends, Consumes, Keeps, IsAtEnd}
 use Rattle.std.proofs.KnownBytes.{Appends-nil, Appends-trans, Consumes-nil, Consumes-trans, Consumes-kept, starts_with_rest}
 use Rattle.std.proofs.lemmas.List.{take-append-drop, take_at, take_all}
-use Rattle.bus_types.specs.Script.{State, start}
-use Rattle.trace_script.specs.Run.{IsPart, IsWhole, whole_part, Played, Ending, before, ended, played, lines_of, script}
+use Rattle.bus_types.specs.Script.{start}
+use Rattle.trace_script.specs.Run.{whole_part, Played, Ending, before, played, lines_of, script}
 use Rattle.trace_script.specs.Run.Ending.{Finished, BadAt, TooLongAt}
 use Rattle.trace_script.proofs.LineLaws.{before-before, whole_part-append, IsWhole-append}
-use Rattle.bus_top.specs.declared.bus.Bus.{Bus}
-use Rattle.bus_top.specs.declared.session.Place.{Place}
 use Rattle.bus_top.specs.declared.session.Session.{Session}
 use Rattle.bus_top.specs.declared.session.Stop.{Stop}
 use Rattle.bus_top.specs.declared.session.Stop.TheVariants.{BadLine, TooLong, NoMemory}
 use Rattle.bus_top.specs.Bus.{state_of}
-use Rattle.bus_top.specs.Session.{Stops, run_bytes, IsSession, TookSome, Takes, Finishes, Reached}
+use Rattle.bus_top.specs.Session.{run_bytes, IsSession, Takes, Finishes, Reached}
 use Rattle.bus_top.specs.declared.status.Status.{Status}
 use Rattle.bus_top.specs.declared.status.Status.TheVariants.{Done, Usage, ReadFault, WriteFault, BadLine as StatusBadLine, NoMemory as StatusNoMemory, TooLong as StatusTooLong}
 use Rattle.bus_top.specs.Trace.{EndsAt, StopsReading, StopsWriting, Ended, Ends, EndsWith, BreaksOff, stop_status}

@@ -9,7 +9,7 @@ ghost use Rattle.bus_top.specs.Bus.{state_of, followers, IsFollowing, IsSound, S
 use crate::consumer::Consumer;
 use crate::fault::StepFault;
 use crate::relay::{self, Served};
-use crate::text;
+use crate::{reply, text};
 use bus_types::{Change, NoMemory, Window};
 use source_db::SourceDb;
 use std::alloc::Global;
@@ -171,10 +171,11 @@ fn ask(
         Served::Empty(end) => Ok(text::empty(alloc, end)?.into_bytes()),
         Served::TooSmall(need) => Ok(text::small(alloc, need)?.into_bytes()),
         Served::Windows(windows) => {
-            consumer.follow(alloc, windows)?;
-            let bytes = relay::bytes_of(windows);
-            let last = end_of(0, windows);
-            Ok(text::served(alloc, windows.len(), bytes, last)?.into_bytes())
+            let reply = reply::write(alloc, windows)?;
+            let windows = reply::read(alloc, consumer.scn, windows, &reply)?;
+            consumer.follow(alloc, &windows)?;
+            let last = end_of(0, &windows);
+            Ok(text::served(alloc, windows.len(), reply.len() as u64, last)?.into_bytes())
         }
     }
 }

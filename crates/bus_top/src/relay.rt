@@ -58,15 +58,3 @@ fn run(windows: &[Window], max: u64) -> usize
     }
     windows.len()
 }
-
-/// The bytes of windows that fit into one reply.
-pub(crate) fn bytes_of(windows: &[Window]) -> u64
-    requires { length windows.now ≤ most_windows }
-    ensures { result ≡ total_size windows.now }
-{
-    let mut bytes = 0;
-    for window in windows {
-        bytes += window.size();
-    }
-    bytes
-}

@@ -1,5 +1,5 @@
 -- The bytes of closing frames and answers. Numbers are big-endian. Each value has one spelling.
-use Rattle.std.specs.Prelude.{ℕ, ◌≤◌, Bool, true, false, if◌then◌else◌, List, [], ◌∷◌, ◌++◌}
+use Rattle.std.specs.Prelude.{ℕ, ◌≤◌, Bool, if◌then◌else◌, List, [], ◌∷◌, ◌++◌}
 use Rattle.std.specs.Int.{w64, to_be_bytes}
 use Rattle.bus_types.specs.declared.limits.TheConstants.{MAX_SCN}
 

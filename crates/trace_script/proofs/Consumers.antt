@@ -1,5 +1,5 @@
 -- Consumers over the lines of a script.
-use Rattle.std.proofs.Common.{◌≡◌, ℕ, zero, suc, ◌+◌, ◌-◌, ◌<◌, ◌≤◌, Bool, true, false, cond, ◌||◌, ◌&&◌, nat_lt, nat_le, List, [], ◌∷◌, ◌++◌, length, Option, Some, None, refl, sym, ap, ◌∙◌, subst, arith}
+use Rattle.std.proofs.Common.{◌≡◌, ℕ, zero, suc, ◌+◌, ◌-◌, ◌<◌, ◌≤◌, Bool, true, false, cond, ◌&&◌, nat_lt, nat_le, List, [], ◌∷◌, ◌++◌, Option, Some, None, refl, sym, ap, ◌∙◌, subst, arith}
 use Rattle.std.specs.Option.{option_and_then}
 use Rattle.std.specs.List.{slice_get, slice_set, AllByRecursion}
 use Rattle.std.proofs.lemmas.Option.{option_and_then_some, some_pair_parts}
@@ -8,9 +8,9 @@ use Rattle.bus_types.specs.View.{everything}
 use Rattle.bus_types.specs.Window.{Span, span_size}
 use Rattle.bus_types.specs.Timeline.{end_from, windows_between}
 use Rattle.bus_types.specs.Cut.{cuts}
-use Rattle.bus_types.specs.Relay.{Served, longest_run, most_windows, fitting, stream}
+use Rattle.bus_types.specs.Relay.{Served, longest_run, most_windows, fitting}
 use Rattle.bus_types.specs.Relay.Served.{NotFound, Empty, TooSmall, Windows}
-use Rattle.bus_types.specs.Script.{Consumer, State, Step, scn_after, answer_of, after_answer, answer_line, place_of, consumer_step, commit_step, feed_step, poll_step, show_step}
+use Rattle.bus_types.specs.Script.{Consumer, State, Step, scn_after, answer_of, place_of, consumer_step, commit_step, feed_step, poll_step, show_step}
 use Rattle.trace_script.specs.declared.line.Line.{Line}
 use Rattle.trace_script.specs.declared.line.Line.TheVariants.{Blank, Consumer as NewConsumer, Commit, Feed, Poll, Show}
 use Rattle.trace_script.specs.Lines.{line_of}

@@ -1,11 +1,10 @@
 -- The lines of an input that comes in pieces, and runs over them.
-use Rattle.std.proofs.Common.{◌≡◌, ℕ, zero, suc, ◌+◌, ◌<◌, ◌≤◌, Bool, true, false, cond, ◌||◌, nat_lt, nat_le, eqb, List, [], ◌∷◌, ◌++◌, length, refl, sym, ap, ◌∙◌, subst, append_assoc, append-nil, arith}
-use Rattle.std.specs.List.{AllByRecursion}
+use Rattle.std.proofs.Common.{◌≡◌, ℕ, ◌+◌, ◌<◌, ◌≤◌, Bool, true, false, cond, ◌||◌, nat_lt, nat_le, eqb, List, [], ◌∷◌, ◌++◌, length, refl, sym, ap, ◌∙◌, append_assoc, append-nil, arith}
 use Rattle.std.proofs.lemmas.Bool.{ltb-true, lt-ltb, ne_eqb}
 use Rattle.std.proofs.lemmas.List.{length-append}
 use Rattle.bus_types.specs.Script.{State}
-use Rattle.trace_script.specs.Run.{RawLine, lines_from, lines_of, IsPart, IsWhole, has_end, whole_part, most_lines, longest_line, longest_input, is_too_long, Played, Ending, before, ended, played}
-use Rattle.trace_script.specs.Run.Ending.{Finished, BadAt, TooLongAt}
+use Rattle.trace_script.specs.Run.{RawLine, lines_from, lines_of, IsPart, IsWhole, has_end, whole_part, most_lines, longest_line, longest_input, is_too_long, Played, before, ended, played}
+use Rattle.trace_script.specs.Run.Ending.{TooLongAt}
 
 -- what stands before the line so far, and behind it
 pub lines_from-append : (line part rest : List ℕ) → IsPart part → lines_from line (part ++ rest) ≡ lines_from (line ++ part) rest

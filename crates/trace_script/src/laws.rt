@@ -6,5 +6,4 @@ ghost use Rattle.trace_script.specs.Run.{RawLine, state_after, GoOn};
 /// the source never falls.
 pub fn consumers_never_go_back()
     ensures { (s later : State) (count used : ℕ) (lines : List RawLine) → state_after s count used lines ≡ Some later → GoOn s.consumers later.consumers }
-{
-}
+{}

@@ -1,8 +1,4 @@
-use Rattle.std.proofs.Common.{ap, subst, sym, ◌∙◌, take}
-use Rattle.std.specs.Io.KnownBytes.{Appends}
-use Rattle.bus_top.specs.Session.{Finishes}
-use Rattle.bus_top.specs.Trace.{Ends}
-use Rattle.bus_top.proofs.Turns.{end_broken, end_done, end_stopped}
+use Rattle.bus_top.proofs.Turns.{end_broken, end_stopped}
 use Rattle.bus_top.proofs.call.end.Goals as goal
 
 pub returns-in_default-clause-ends : goal.returns-in_default-clause-ends

@@ -1,4 +1,4 @@
-use Rattle.std.proofs.Common.{◌≡◌, ◌≤◌, ◌<◌, ◌+◌, ◌-◌, length}
+use Rattle.std.proofs.Common.{◌≤◌, ◌<◌, ◌+◌, ◌-◌, length}
 use Rattle.trace_script.specs.Run.{longest_input}
 use Rattle.bus_top.specs.Session.{IsSession, Reached}
 use Rattle.bus_top.proofs.call.run.Given as goal

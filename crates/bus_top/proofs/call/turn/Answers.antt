@@ -1,4 +1,4 @@
-use Rattle.std.proofs.Common.{◌<◌, ◌≡◌, ap, length, subst, sym, ◌∙◌, take, Ok, Err, arith}
+use Rattle.std.proofs.Common.{◌<◌, length, arith}
 use Rattle.bus_top.proofs.Turns.{stopped_reading, stopped_writing, stopped, reached_more, ended_by}
 use Rattle.bus_top.proofs.call.turn.Goals as goal
 

@@ -1,4 +1,4 @@
-use Rattle.bus_top.proofs.Pieces.{first_some, first_none}
+use Rattle.bus_top.proofs.Pieces.{first_some}
 use Rattle.bus_top.proofs.session.first_line.Goals as goal
 
 pub returns : goal.returns

@@ -1,4 +1,3 @@
-use Rattle.std.proofs.Common.{◌++◌, ◌∙◌, Ok, Err, subst, sym}
 use Rattle.std.proofs.lemmas.Result.{err_from_is_err_and}
 use Rattle.bus_top.proofs.Pieces.{took_none, took_more, took_err, took_rest}
 use Rattle.bus_top.proofs.session.Session.feed.Goals as goal

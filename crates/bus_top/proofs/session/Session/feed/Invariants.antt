@@ -1,6 +1,5 @@
-use Rattle.std.proofs.Common.{◌≡◌, ◌++◌, ℕ, List, length}
-use Rattle.trace_script.specs.Run.{IsWhole, before}
-use Rattle.bus_top.specs.Session.{IsSession, TookSome}
+use Rattle.std.proofs.Common.{◌++◌, length}
+use Rattle.bus_top.specs.Session.{TookSome}
 use Rattle.bus_top.proofs.session.Session.feed.Given as goal
 
 abbrev pub invariant-loop-line : goal.invariant-loop-line

@@ -1,4 +1,4 @@
-use Rattle.std.proofs.Common.{◌∙◌, sym, arith}
+use Rattle.std.proofs.Common.{sym}
 use Rattle.bus_top.proofs.Pieces.{finish_none, finishes, empty_items, some_items}
 use Rattle.bus_top.proofs.session.Session.finish.Goals as goal
 

@@ -1,4 +1,4 @@
-use Rattle.std.proofs.Common.{◌++◌, ◌∙◌, Ok, Err, subst}
+use Rattle.std.proofs.Common.{◌++◌, ◌∙◌}
 use Rattle.std.proofs.lemmas.Result.{err_from_is_err_and}
 use Rattle.trace_script.proofs.LineLaws.{IsPart-append}
 use Rattle.bus_top.proofs.Pieces.{joined_err, joined_ok, holds_err_end}

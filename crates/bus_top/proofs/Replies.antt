@@ -1,0 +1,123 @@
+-- The reply of a relay to a consumer, as bytes that a splitter reads.
+use Rattle.std.proofs.Common.{◌≡◌, ℕ, ◌+◌, ◌<◌, ◌≤◌, true, false, List, [], ◌∷◌, ◌++◌, length, get_or, take, drop, refl, sym, ap, subst, ◌∙◌, append-nil, append_assoc, arith, inl, inr, Ok, Err}
+use Rattle.std.proofs.lemmas.Bool.{le-leb, eq-eqb}
+use Rattle.std.proofs.lemmas.List.{length-append, drop_more}
+use Rattle.bus_types.specs.declared.change.Key.{Key}
+use Rattle.bus_types.specs.declared.change.Key.TheVariants.{Long}
+use Rattle.bus_types.specs.declared.change.Change.{Change}
+use Rattle.bus_types.specs.Change.{head_size}
+use Rattle.event_codec.specs.Bytes.{Event, event_bytes, changes_bytes, window_bytes}
+use Rattle.event_codec.proofs.Events.{event_length}
+use Rattle.event_codec.proofs.Windows.{window_length}
+use Rattle.bus_types.specs.Script.{served_line}
+use Rattle.bus_types.specs.Window.{Span}
+use Rattle.bus_types.specs.Timeline.{IsTimeline, IsTimelineFrom, end_from, total_size, windows_between}
+use Rattle.bus_types.proofs.Stretches.{Rises, rises_take, between_rises, timeline_rises, timeline-take, between_timeline, between_end}
+use Rattle.window_stream.specs.Head.{Since, open_of, front_of}
+use Rattle.window_stream.specs.Head.Front.{Unfinished, Refused}
+use Rattle.window_stream.proofs.Readings.{one_reading}
+use Rattle.window_stream.specs.Stream.{Come, after_windows, windows_bytes, IsReading, Behind, Split, new_split, Feeds, TakesAll, FindsBad}
+use Rattle.window_stream.specs.declared.splitter.SplitFault.{SplitFault}
+use Rattle.window_stream.specs.declared.splitter.SplitFault.TheVariants.{Bad}
+
+-- windows that follow each other come one after the other
+come_after : (prev : ℕ) (ws : List Span) → IsTimelineFrom prev ws → Come (record { floor = prev; started = true }) ws
+come_after prev [] t = tt
+come_after prev (w ∷ ws) t =
+    let below = t.0.within.prev in
+    let chained = t.0.chained in
+    (record { within = t.0.within; above = omega arith; chained = eq-eqb w.prev prev chained }, come_after w.scn ws t.1)
+
+come_first : (prev floor : ℕ) (ws : List Span) → IsTimelineFrom prev ws → prev ≤ floor → Rises floor ws → Come (record { floor = floor; started = false }) ws
+come_first prev floor [] t le r = tt
+come_first prev floor (w ∷ ws) t le r =
+    let chained = t.0.chained in
+    (record { within = t.0.within; above = r.0; chained = le-leb w.prev floor (omega arith) }, come_after w.scn ws t.1)
+
+-- a front of the windows behind an SCN comes to who is there
+pub run_comes : (scn end k : ℕ) (ws run : List Span) → IsTimeline ws → run ≡ take k (windows_between scn end ws) → Come (record { floor = scn; started = false }) run
+run_comes scn end k ws run t e =
+    let before : ℕ = end_from 0 (windows_between 0 scn ws) in
+    let stretch = timeline-take before k (windows_between scn end ws) (between_timeline 0 scn end ws t) in
+    let rising = rises_take scn k (windows_between scn end ws) (between_rises 0 scn end ws (timeline_rises 0 ws t)) in
+    subst (Come (record { floor = scn; started = false })) (sym e) (come_first before scn (take k (windows_between scn end ws)) stretch (between_end 0 0 scn ws (omega arith)) rising)
+
+-- the bytes of windows are as many as the windows say
+windows_length : (ws : List Span) → length (windows_bytes ws) ≡ total_size ws
+windows_length [] = refl
+windows_length (w ∷ ws) = omega (arith, length-append (window_bytes w) (windows_bytes ws), window_length w, windows_length ws)
+
+-- the line of a reply, written by the windows that were read in it and the bytes that were sent
+pub read_line : (ws read : List Span) (reply : List ℕ) (count size last : ℕ) → read ≡ ws → reply ≡ windows_bytes ws → count ≡ length read → size ≡ length reply → last ≡ end_from 0 read → served_line count size last ≡ served_line (length ws) (total_size ws) (end_from 0 ws)
+read_line ws read reply count size last same e c s l i = served_line ((c ∙ ap (λ (v : List Span). length v) same) i) ((s ∙ ap (λ (b : List ℕ). length b) e ∙ windows_length ws) i) ((l ∙ ap (end_from 0) same) i)
+
+-- nothing stands behind whole windows
+nothing_behind : (s : Since) → Behind s [] Unfinished
+unfolding front_of
+nothing_behind s = record {
+  scn = 0;
+  changes = [];
+  part = [];
+  bytes = refl;
+  begins = record { above = λ lt. absurd (omega arith); scn = omega arith; count = omega arith; size = omega arith; changes = tt };
+  stops = refl;
+}
+
+sent : (s : Since) (ws : List Span) → Come s ws → IsReading s (windows_bytes ws) ws []
+sent s ws come = record { parts = sym (append-nil (windows_bytes ws)); come = come; stops = inl (nothing_behind (after_windows s ws)) }
+
+took : (scn : ℕ) (ws : List Span) (reply : List ℕ) (new : Split) (after : List Span) → reply ≡ windows_bytes ws → Come (record { floor = scn; started = false }) ws → TakesAll (new_split scn) reply new [] after → after ≡ ws
+took scn ws reply new after e come t =
+    let since : Since = record { floor = scn; started = false } in
+    let read : IsReading since (windows_bytes ws) t.gives.windows new.rest = record {
+      parts = sym e ∙ t.gives.bytes;
+      come = t.gives.come;
+      stops = inl (subst (λ (s : Since). Behind s new.rest Unfinished) t.since t.behind);
+    } in
+    t.gives.given ∙ (one_reading since (windows_bytes ws) t.gives.windows ws new.rest [] read (sent since ws come)).0
+
+some_head : (key : Key) → 0 < head_size key
+some_head (Long k) = omega arith
+
+not_bad_at : (s : Since) (scn : ℕ) (cs : List Change) (part : List ℕ) → 0 ≡ length (changes_bytes scn cs ++ part) → front_of s (open_of scn cs) part ≡ Refused → ⊥
+unfolding front_of
+not_bad_at s scn [] [] e h = absurd cc
+not_bad_at s scn [] (b ∷ part) e h = absurd (omega arith)
+not_bad_at s scn (c ∷ cs) part e h =
+    let event : Event = record { scn = scn; change = c } in
+    let long = length-append (event_bytes event ++ changes_bytes scn cs) part in
+    let longer = length-append (event_bytes event) (changes_bytes scn cs) in
+    let size = event_length event in
+    let head = some_head c.key in
+    absurd (omega arith)
+
+-- a bad front isn't nothing
+not_bad : (s : Since) (rest : List ℕ) → rest ≡ [] → Behind s rest Refused → ⊥
+not_bad s rest none b = not_bad_at s b.scn b.changes b.part (ap (λ (l : List ℕ). length l) (sym none ∙ b.bytes)) b.stops
+
+-- the bytes of one more window
+pub written_more : (reply more : List ℕ) (ws : List Span) (i : ℕ) (w : Span) → i < length ws → w ≡ get_or ws i w → more ≡ reply ++ window_bytes w → reply ++ windows_bytes (drop i ws) ≡ windows_bytes ws → more ++ windows_bytes (drop (i + 1) ws) ≡ windows_bytes ws
+written_more reply more ws i w lt is e h =
+    let first : drop i ws ≡ w ∷ drop (i + 1) ws = drop_more ws i w lt ∙ ap (λ (v : Span). v ∷ drop (i + 1) ws) (sym is) in
+    ap (λ (l : List ℕ). l ++ windows_bytes (drop (i + 1) ws)) e ∙ append_assoc reply (window_bytes w) (windows_bytes (drop (i + 1) ws)) ∙ ap (λ (l : List Span). reply ++ windows_bytes l) (sym first) ∙ h
+
+good : (scn place : ℕ) (ws : List Span) (reply : List ℕ) (new : Split) (after : List Span) → reply ≡ windows_bytes ws → Come (record { floor = scn; started = false }) ws → FindsBad (new_split scn) reply place new [] after → ⊥
+good scn place ws reply new after e come t =
+    let since : Since = record { floor = scn; started = false } in
+    let read : IsReading since (windows_bytes ws) t.gives.windows t.rest = record {
+      parts = sym e ∙ t.gives.bytes;
+      come = t.gives.come;
+      stops = inr t.behind;
+    } in
+    not_bad (after_windows since t.gives.windows) t.rest (one_reading since (windows_bytes ws) t.gives.windows ws t.rest [] read (sent since ws come)).1 t.behind
+
+-- a reply that a splitter took is the windows that were sent
+pub took_sent : (scn : ℕ) (ws : List Span) (reply : List ℕ) (u : Unit {0}) (old new : Split) (before after : List Span) → reply ≡ windows_bytes ws → Come (record { floor = scn; started = false }) ws → old ≡ new_split scn → before ≡ [] → Feeds (Ok u) old reply new before after → after ≡ ws
+took_sent scn ws reply u old new before after e come fresh none t =
+    took scn ws reply new after e come (subst (λ (b : List Span). Feeds (Ok u) (new_split scn) reply new b after) none (subst (λ (o : Split). Feeds (Ok u) o reply new before after) fresh t))
+
+-- a splitter doesn't find a reply bad
+pub sent_is_good : (scn place : ℕ) (ws : List Span) (reply : List ℕ) (fault : SplitFault) (old new : Split) (before after : List Span) → fault ≡ Bad place → reply ≡ windows_bytes ws → Come (record { floor = scn; started = false }) ws → old ≡ new_split scn → before ≡ [] → Feeds (Err fault) old reply new before after → ⊥
+sent_is_good scn place ws reply fault old new before after bad e come fresh none t =
+    let found = subst (λ (f : SplitFault). Feeds (Err f) old reply new before after) bad t in
+    good scn place ws reply new after e come (subst (λ (b : List Span). Feeds (Err (Bad place)) (new_split scn) reply new b after) none (subst (λ (o : Split). Feeds (Err (Bad place)) o reply new before after) fresh found))

@@ -1,0 +1,9 @@
+use Rattle.std.proofs.Common.{sym, ◌∙◌}
+use Rattle.window_stream.specs.Item.{since_of, open_in}
+use Rattle.window_stream.proofs.Fronts.{event_found}
+use Rattle.window_stream.proofs.item.event_front.Goals as goal
+
+pub returns : goal.returns
+returns c =
+    event_found (since_of c.args.follows) (open_in c.args.events) c.args.kind c.args.bytes.now c.in-Some.scn c.in-Some.len c.in-Some.payload.now
+    c.in-Some.ensures (sym c.event_stands.ensures ∙ c.if-not-event_stands.false) c.if-payload-len.false

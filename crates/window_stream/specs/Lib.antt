@@ -1,0 +1,5 @@
+pub mod Head
+pub mod Stream
+pub mod Item
+pub mod Decode
+pub mod Scan

@@ -1,0 +1,175 @@
+ghost use Rattle.std.specs.Prelude.{◌≡◌, ◌≤◌, length, take, drop, MatchOption, ◌<◌};
+ghost use Rattle.std.specs.Int.{w32, w64, from_be_bytes};
+ghost use Rattle.window_stream.specs.Head.{has_right_scn, has_right_prev, event_stands, mark_stands, event_front, mark_front, front_of};
+ghost use Rattle.window_stream.specs.Item.{since_of, open_in, Shows, has_room, is_in_range, IsEventNumbers, IsMarkNumbers};
+ghost use Rattle.bus_types.specs.declared.limits.TheConstants.{MAX_WINDOW};
+
+use bus_types::{MAX_CHANGES, MAX_PAYLOAD, MAX_SCN, MAX_WINDOW};
+
+// The bytes of a mark.
+pub(crate) const MARK_SIZE: usize = 17;
+
+// The bytes of an event before its payload.
+const HEAD_SIZE: usize = 23;
+
+// The kind of a put.
+const PUT: u8 = 1;
+
+// The kind of a delete.
+const DELETE: u8 = 2;
+
+// The kind of a mark.
+const MARK: u8 = 3;
+
+// What the next window follows: the SCN of the mark before it, or the floor where no mark has come.
+#[derive(Clone, Copy, Debug)]
+pub(crate) struct Follows {
+    pub floor: u64,
+    pub started: bool,
+}
+
+// The whole events of the window that has begun: the SCN of the first, where there is one, their count and their bytes.
+#[derive(Clone, Copy, Debug)]
+pub(crate) struct Events {
+    pub scn: Option<u64>,
+    pub count: usize,
+    pub size: usize,
+}
+
+// What stands at the front of bytes in a stream of windows.
+#[derive(Clone, Copy, Debug)]
+pub(crate) enum Item {
+    // An item that isn't whole yet, and whose head can stand as far as it has come.
+    Unfinished,
+    // A complete head that can't stand.
+    Refused,
+    // An event of this many bytes.
+    Event { scn: u64, size: usize },
+    // A mark.
+    Mark { scn: u64, prev: u64 },
+}
+
+// Whether an item of this SCN can stand in a window whose first event has that one, if it has any.
+fn has_right_scn(follows: Follows, first: Option<u64>, scn: u64) -> bool
+    ensures { result ≡ has_right_scn (since_of follows) first scn }
+{
+    match first {
+        None => follows.floor < scn,
+        Some(first) => scn == first,
+    }
+}
+
+// Whether a mark can have this SCN before its own.
+fn has_right_prev(follows: Follows, prev: u64) -> bool
+    ensures { result ≡ has_right_prev (since_of follows) prev }
+{
+    if follows.started {
+        prev == follows.floor
+    } else {
+        prev <= follows.floor
+    }
+}
+
+// Whether the window has room for an event with so long a payload, and for its mark.
+fn has_room(events: Events, len: u32) -> bool
+    requires size { events.size ≤ MAX_WINDOW }
+    requires len { len ≤ 65536 }
+    ensures { result ≡ has_room (open_in events) len }
+{
+    events.count < MAX_CHANGES
+        && (events.size + HEAD_SIZE + len as usize + MARK_SIZE) as u64 <= MAX_WINDOW
+}
+
+// Whether an event's SCN and length are in their ranges.
+fn is_in_range(kind: u8, scn: u64, len: u32) -> bool
+    ensures { result ≡ is_in_range kind scn len }
+{
+    0 < scn && scn <= MAX_SCN && len as usize <= MAX_PAYLOAD && (kind == PUT || len == 0)
+}
+
+// Whether an event with these numbers can stand.
+fn event_stands(follows: Follows, events: Events, kind: u8, scn: u64, len: u32) -> bool
+    requires { events.size ≤ MAX_WINDOW }
+    ensures { result ≡ event_stands (since_of follows) (open_in events) kind scn len }
+{
+    is_in_range(kind, scn, len) && has_right_scn(follows, events.scn, scn) && has_room(events, len)
+}
+
+// Whether a mark with these numbers can stand.
+fn mark_stands(follows: Follows, events: Events, scn: u64, prev: u64) -> bool
+    ensures { result ≡ mark_stands (since_of follows) (open_in events) scn prev }
+{
+    scn <= MAX_SCN
+        && prev < scn
+        && has_right_scn(follows, events.scn, scn)
+        && has_right_prev(follows, prev)
+}
+
+// Of an event behind its kind: the SCN, the length of the payload, and the bytes from the payload on.
+fn event_numbers(bytes: &[u8]) -> Option<(u64, u32, &[u8])>
+    ensures { MatchOption result (length bytes.now < 22) (λ x. IsEventNumbers bytes.now x.0 x.1 x.2.now) }
+{
+    let (_source, bytes) = bytes.split_first_chunk::<2>()?;
+    let (scn, bytes) = bytes.split_first_chunk::<8>()?;
+    let (_key, bytes) = bytes.split_first_chunk::<8>()?;
+    let (len, bytes) = bytes.split_first_chunk::<4>()?;
+    Some((u64::from_be_bytes(*scn), u32::from_be_bytes(*len), bytes))
+}
+
+// Of a mark behind its kind: the SCN, and the SCN before it.
+fn mark_numbers(bytes: &[u8]) -> Option<(u64, u64)>
+    ensures { MatchOption result (length bytes.now < 16) (λ x. IsMarkNumbers bytes.now x.0 x.1) }
+{
+    let (scn, bytes) = bytes.split_first_chunk::<8>()?;
+    let (prev, _) = bytes.split_first_chunk::<8>()?;
+    Some((u64::from_be_bytes(*scn), u64::from_be_bytes(*prev)))
+}
+
+// What stands in front behind the kind of an event.
+fn event_front(follows: Follows, events: Events, kind: u8, bytes: &[u8]) -> Item
+    requires { events.size ≤ MAX_WINDOW }
+    ensures { Shows result (event_front (since_of follows) (open_in events) kind bytes.now) }
+{
+    let Some((scn, len, payload)) = event_numbers(bytes) else {
+        return Item::Unfinished;
+    };
+    if !event_stands(follows, events, kind, scn, len) {
+        return Item::Refused;
+    }
+    let len = len as usize;
+    if payload.len() < len {
+        return Item::Unfinished;
+    }
+    Item::Event {
+        scn,
+        size: HEAD_SIZE + len,
+    }
+}
+
+// What stands in front behind the kind of a mark.
+fn mark_front(follows: Follows, events: Events, bytes: &[u8]) -> Item
+    ensures { Shows result (mark_front (since_of follows) (open_in events) bytes.now) }
+{
+    let Some((scn, prev)) = mark_numbers(bytes) else {
+        return Item::Unfinished;
+    };
+    if !mark_stands(follows, events, scn, prev) {
+        return Item::Refused;
+    }
+    Item::Mark { scn, prev }
+}
+
+// What stands at the front of bytes, behind these whole events of a window.
+#[tactic(auto, unfolding(crate::specs::Head::front_of))]
+pub(crate) fn front(follows: Follows, events: Events, bytes: &[u8]) -> Item
+    requires { events.size ≤ MAX_WINDOW }
+    ensures { Shows result (front_of (since_of follows) (open_in events) bytes.now) }
+{
+    match bytes {
+        [] => Item::Unfinished,
+        [MARK, rest @ ..] => mark_front(follows, events, rest),
+        [PUT, rest @ ..] => event_front(follows, events, PUT, rest),
+        [DELETE, rest @ ..] => event_front(follows, events, DELETE, rest),
+        [_, ..] => Item::Refused,
+    }
+}
