@@ -5,9 +5,8 @@
 
 use bus_io::{Reading, Writing};
 use bus_top::{Status, trace};
-use std::env;
-use std::io;
 use std::process::ExitCode;
+use std::{env, io};
 
 fn main(rt: HostRuntime) -> ExitCode {
     let status = run(&rt);
