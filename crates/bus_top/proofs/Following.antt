@@ -3,7 +3,7 @@ use Rattle.std.proofs.Common.{◌≡◌, ℕ, ◌+◌, ◌<◌, List, ◌∷◌,
 use Rattle.std.proofs.lemmas.List.{drop_more}
 use Rattle.bus_types.specs.declared.change.Change.{Change}
 use Rattle.bus_types.specs.Window.{Span}
-use Rattle.bus_types.specs.Table.{Rows, rows_after}
+use Rattle.bus_types.specs.Table.{RowList, rows_after}
 use Rattle.bus_types.specs.Timeline.{end_from}
 use Rattle.bus_types.proofs.TableLaws.{rows_after-append}
 
@@ -15,9 +15,9 @@ first_of : (ws : List Span) (i : ℕ) (w : Span) → i < length ws → w ≡ get
 first_of ws i w lt is = drop_more ws i w lt ∙ ap (λ (v : Span). v ∷ drop (i + 1) ws) (sym is)
 
 -- the rows after one more window
-pub followed : (rows more all : Rows) (ws : List Span) (i : ℕ) (w : Span) → i < length ws → w ≡ get_or ws i w → more ≡ rows_after rows w.changes → rows_after rows (flat_map (λ (v : Span). v.changes) (drop i ws)) ≡ all → rows_after more (flat_map (λ (v : Span). v.changes) (drop (i + 1) ws)) ≡ all
+pub followed : (rows more all : RowList) (ws : List Span) (i : ℕ) (w : Span) → i < length ws → w ≡ get_or ws i w → more ≡ rows_after rows w.changes → rows_after rows (flat_map (λ (v : Span). v.changes) (drop i ws)) ≡ all → rows_after more (flat_map (λ (v : Span). v.changes) (drop (i + 1) ws)) ≡ all
 followed rows more all ws i w lt is e h =
-    ap (λ (r : Rows). rows_after r (changes_of (drop (i + 1) ws))) e ∙ sym (rows_after-append rows w.changes (changes_of (drop (i + 1) ws))) ∙ ap (λ (l : List Span). rows_after rows (changes_of l)) (sym (first_of ws i w lt is)) ∙ h
+    ap (λ (r : RowList). rows_after r (changes_of (drop (i + 1) ws))) e ∙ sym (rows_after-append rows w.changes (changes_of (drop (i + 1) ws))) ∙ ap (λ (l : List Span). rows_after rows (changes_of l)) (sym (first_of ws i w lt is)) ∙ h
 
 -- the SCN after one more window
 pub ended : (scn more all : ℕ) (ws : List Span) (i : ℕ) (w : Span) → i < length ws → w ≡ get_or ws i w → more ≡ w.scn → end_from scn (drop i ws) ≡ all → end_from more (drop (i + 1) ws) ≡ all

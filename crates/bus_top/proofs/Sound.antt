@@ -11,7 +11,7 @@ use Rattle.bus_types.specs.declared.window.WindowFault.{WindowFault}
 use Rattle.bus_types.specs.declared.window.WindowFault.TheVariants.{BadScn, Empty as NoChange}
 use Rattle.bus_types.specs.Window.{Span, span_size, bad_scn, cut_fault, window_fault, IsSpan}
 use Rattle.bus_types.specs.Timeline.{Follows, IsTimeline, end_from, end_of, windows_between, total_size}
-use Rattle.bus_types.specs.Table.{Rows, rows_after}
+use Rattle.bus_types.specs.Table.{RowList, rows_after}
 use Rattle.bus_types.specs.View.{everything, shown, view}
 use Rattle.bus_types.specs.Cut.{cuts}
 use Rattle.bus_types.specs.Relay.{Served, longest_run, IsLongestRun, most_windows, fitting, stream}
@@ -105,7 +105,7 @@ reply_follows ws end max run old new t h e r s =
     let front = reply_front ws end old.scn max run e in
     record {
       behind = (let b = run_within 0 old.scn end (length run) ws run t h.behind front in omega arith);
-      rows = r ∙ ap (λ (rows : Rows). rows_after rows (flat_map (λ (w : Span). w.changes) run)) h.rows ∙ view_replies everything most_windows max old.scn end ws run t (reply_is ws end old.scn max run e) ∙ sym (ap (view everything ws) s);
+      rows = r ∙ ap (λ (rows : RowList). rows_after rows (flat_map (λ (w : Span). w.changes) run)) h.rows ∙ view_replies everything most_windows max old.scn end ws run t (reply_is ws end old.scn max run e) ∙ sym (ap (view everything ws) s);
     }
 
 -- ---- the bus

@@ -7,7 +7,7 @@ use Rattle.bus_types.specs.declared.change.RowName.{RowName}
 use Rattle.bus_types.specs.Change.{name_cmp, is_name, name_of, Test, accepted}
 use Rattle.bus_types.specs.Window.{Span}
 use Rattle.bus_types.specs.Timeline.{changes_between}
-use Rattle.bus_types.specs.Table.{Rows, row_after, rows_after, table, payload_at, later, last_change, HoldsLastPuts}
+use Rattle.bus_types.specs.Table.{RowList, row_after, rows_after, table, payload_at, later, last_change, HoldsLastPuts}
 use Rattle.bus_types.specs.Cut.{cut, cuts}
 use Rattle.bus_types.specs.View.{everything, shown}
 use Rattle.bus_types.proofs.Names.{name_cmp_total, name_cmp_exact}
@@ -19,16 +19,16 @@ payload_after None before = before
 payload_after (Some c) before = c.put
 
 -- changes in two parts
-pub rows_after-append : (rows : Rows) (cs ds : List Change) → rows_after rows (cs ++ ds) ≡ rows_after (rows_after rows cs) ds
+pub rows_after-append : (rows : RowList) (cs ds : List Change) → rows_after rows (cs ++ ds) ≡ rows_after (rows_after rows cs) ds
 rows_after-append rows [] ds = refl
 rows_after-append rows (c ∷ cs) ds = rows_after-append (row_after rows (name_of c) c.put) cs ds
 
-row_after-ordered : (rows : Rows) (name : RowName) (put : Option (List ℕ)) → is_sorted name_cmp rows ≡ true → is_sorted name_cmp (row_after rows name put) ≡ true
+row_after-ordered : (rows : RowList) (name : RowName) (put : Option (List ℕ)) → is_sorted name_cmp rows ≡ true → is_sorted name_cmp (row_after rows name put) ≡ true
 row_after-ordered rows name None h = ordered-remove name_cmp name_cmp_total rows name h
 row_after-ordered rows name (Some payload) h = ordered-insert name_cmp name_cmp_total rows name payload h
 
 -- changes keep the order of rows
-pub rows_after-ordered : (rows : Rows) (cs : List Change) → is_sorted name_cmp rows ≡ true → is_sorted name_cmp (rows_after rows cs) ≡ true
+pub rows_after-ordered : (rows : RowList) (cs : List Change) → is_sorted name_cmp rows ≡ true → is_sorted name_cmp (rows_after rows cs) ≡ true
 rows_after-ordered rows [] h = h
 rows_after-ordered rows (c ∷ cs) h = rows_after-ordered (row_after rows (name_of c) c.put) cs (row_after-ordered rows (name_of c) c.put h)
 
@@ -37,7 +37,7 @@ pub table-ordered : (windows : List Span) (scn : ℕ) → is_sorted name_cmp (ta
 table-ordered windows scn = rows_after-ordered [] (changes_between 0 scn windows) refl
 
 -- what rows have of a name after one change
-pub payload_at-row_after : (rows : Rows) (name : RowName) (put : Option (List ℕ)) (q : RowName) → is_sorted name_cmp rows ≡ true → payload_at (row_after rows name put) q ≡ cond (is_name q name) put (payload_at rows q)
+pub payload_at-row_after : (rows : RowList) (name : RowName) (put : Option (List ℕ)) (q : RowName) → is_sorted name_cmp rows ≡ true → payload_at (row_after rows name put) q ≡ cond (is_name q name) put (payload_at rows q)
 payload_at-row_after rows name None q h = lookup-remove name_cmp name_cmp_total rows name q h
 payload_at-row_after rows name (Some payload) q h = lookup-insert name_cmp name_cmp_total rows name payload q
 
@@ -47,7 +47,7 @@ joined false c None before = refl
 joined b c (Some d) before = refl
 
 -- what rows have of a name after changes: the last of them that names it decides
-pub payload_at-after : (rows : Rows) (cs : List Change) (q : RowName) → is_sorted name_cmp rows ≡ true → payload_at (rows_after rows cs) q ≡ payload_after (last_change q cs) (payload_at rows q)
+pub payload_at-after : (rows : RowList) (cs : List Change) (q : RowName) → is_sorted name_cmp rows ≡ true → payload_at (rows_after rows cs) q ≡ payload_after (last_change q cs) (payload_at rows q)
 payload_at-after rows [] q h = refl
 payload_at-after rows (c ∷ cs) q h =
     payload_at-after (row_after rows (name_of c) c.put) cs q (row_after-ordered rows (name_of c) c.put h)
@@ -55,7 +55,7 @@ payload_at-after rows (c ∷ cs) q h =
     ∙ joined (is_name q (name_of c)) c (last_change q cs) (payload_at rows q)
 
 -- rows in order that have the same of each name are equal
-pub same_rows : (rows others : Rows) → is_sorted name_cmp rows ≡ true → is_sorted name_cmp others ≡ true → ((q : RowName) → payload_at rows q ≡ payload_at others q) → rows ≡ others
+pub same_rows : (rows others : RowList) → is_sorted name_cmp rows ≡ true → is_sorted name_cmp others ≡ true → ((q : RowName) → payload_at rows q ≡ payload_at others q) → rows ≡ others
 same_rows rows others g h alike = same_by_lookup name_cmp name_cmp_total name_cmp_exact rows others g h alike
 
 put_of_last : (last : Option Change) → payload_after last None ≡ option_and_then (λ c. c.put) last
@@ -70,11 +70,11 @@ table_holds windows scn = record {
 }
 
 -- a filter keeps the order of rows
-pub shown-ordered : (test : Test) (rows : Rows) → is_sorted name_cmp rows ≡ true → is_sorted name_cmp (shown test rows) ≡ true
+pub shown-ordered : (test : Test) (rows : RowList) → is_sorted name_cmp rows ≡ true → is_sorted name_cmp (shown test rows) ≡ true
 shown-ordered test rows h = ordered-where name_cmp name_cmp_total (λ n. test n.source n.key) rows h
 
 -- what a filter shows of a name
-pub payload_at-shown : (test : Test) (rows : Rows) (q : RowName) → payload_at (shown test rows) q ≡ cond (test q.source q.key) (payload_at rows q) None
+pub payload_at-shown : (test : Test) (rows : RowList) (q : RowName) → payload_at (shown test rows) q ≡ cond (test q.source q.key) (payload_at rows q) None
 payload_at-shown test rows q = lookup-where name_cmp name_cmp_total name_cmp_exact (λ n. test n.source n.key) rows q
 
 passed : (b : Bool) (q : RowName) (c : Change) (cs : List Change) → last_change q (cond b (c ∷ cs) cs) ≡ cond b (later (if is_name q (name_of c) then Some c else None) (last_change q cs)) (last_change q cs)
@@ -109,7 +109,7 @@ kept_payload true last before = refl
 kept_payload false last before = refl
 
 -- a filter commutes with changes
-pub shown-after : (test : Test) (rows : Rows) (cs : List Change) → is_sorted name_cmp rows ≡ true → shown test (rows_after rows cs) ≡ rows_after (shown test rows) (accepted test cs)
+pub shown-after : (test : Test) (rows : RowList) (cs : List Change) → is_sorted name_cmp rows ≡ true → shown test (rows_after rows cs) ≡ rows_after (shown test rows) (accepted test cs)
 shown-after test rows cs h =
     let kept = shown-ordered test rows h in
     same_rows _ _ (shown-ordered test (rows_after rows cs) (rows_after-ordered rows cs h)) (rows_after-ordered (shown test rows) (accepted test cs) kept) (λ q.
@@ -122,7 +122,7 @@ shown-after test rows cs h =
     ∙ ap (λ last. payload_after last (cond t (payload_at rows q) None)) (last_change-accepted test cs q)))
 
 -- everything shows each row
-pub shown_everything : (rows : Rows) → shown everything rows ≡ rows
+pub shown_everything : (rows : RowList) → shown everything rows ≡ rows
 shown_everything [] = refl
 shown_everything (row ∷ rows) = ap (λ l. row ∷ l) (shown_everything rows)
 

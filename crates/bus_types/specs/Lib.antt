@@ -7,3 +7,5 @@ pub mod View
 pub mod Cut
 pub mod Relay
 pub mod Script
+pub mod Text
+pub mod Rows

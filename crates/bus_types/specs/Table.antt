@@ -10,24 +10,24 @@ use Rattle.bus_types.specs.Window.{Span}
 use Rattle.bus_types.specs.Timeline.{changes_between}
 
 -- rows, each a name and a payload, in order of name
-abbrev pub Rows : Type 0
-Rows = List (RowName × List ℕ)
+abbrev pub RowList : Type 0
+RowList = List (RowName × List ℕ)
 
 -- the rows after a row was put or deleted
-abbrev pub row_after : Rows → RowName → Option (List ℕ) → Rows
+abbrev pub row_after : RowList → RowName → Option (List ℕ) → RowList
 row_after rows name None = remove_entry (is_at (name_cmp name)) rows
 row_after rows name (Some payload) = insert_entry name_cmp rows name payload
 
 -- the rows after changes, in their order
-abbrev pub rows_after : Rows → List Change → Rows
+abbrev pub rows_after : RowList → List Change → RowList
 rows_after rows [] = rows
 rows_after rows (c ∷ cs) = rows_after (row_after rows (name_of c) c.put) cs
 
 -- the table after the windows up to an SCN
-abbrev pub table : List Span → ℕ → Rows
+abbrev pub table : List Span → ℕ → RowList
 table windows scn = rows_after [] (changes_between 0 scn windows)
 
-abbrev pub payload_at : Rows → RowName → Option (List ℕ)
+abbrev pub payload_at : RowList → RowName → Option (List ℕ)
 payload_at rows name = lookup (is_at (name_cmp name)) rows
 
 -- the second where there is one, else the first
@@ -49,6 +49,6 @@ abbrev pub last_put : List Span → RowName → ℕ → Option (List ℕ)
 last_put windows name scn = option_and_then (λ c. c.put) (last_between windows name 0 scn)
 
 -- rows in strictly rising order of name, and each row exactly where its last change is a put, with that payload
-pub record HoldsLastPuts (windows : List Span) (scn : ℕ) (rows : Rows) : Type 0 where
+pub record HoldsLastPuts (windows : List Span) (scn : ℕ) (rows : RowList) : Type 0 where
   pub ordered : is_sorted name_cmp rows ≡ true
   pub each : (name : RowName) → payload_at rows name ≡ last_put windows name scn

@@ -10,6 +10,8 @@ mod fault;
 mod laws;
 mod limits;
 mod payload;
+mod row;
+mod text;
 mod timeline;
 mod window;
 
@@ -20,6 +22,8 @@ pub use fault::{Failed, NoMemory};
 pub use laws::{a_reply_is_the_longest_run, table_holds_last_puts};
 pub use limits::{MAX_CHANGES, MAX_PAYLOAD, MAX_SCN, MAX_WINDOW};
 pub use payload::{Payload, PayloadFault};
+pub use row::{Cursor, MarkText, Row, Rows};
+pub use text::{cut_text, read_number};
 pub use timeline::{Timeline, Untold};
 pub use window::{Window, WindowFault};
 

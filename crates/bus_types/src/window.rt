@@ -4,7 +4,9 @@ ghost use Rattle.bus_types.specs.Window.{Span, span_size, IsSpan, bad_scn, windo
 ghost use Rattle.bus_types.specs.declared.limits.TheConstants.{MAX_CHANGES};
 
 use crate::change::Change;
+use crate::fault::NoMemory;
 use crate::limits::{MAX_CHANGES, MAX_SCN, MAX_WINDOW};
+use std::alloc::Global;
 use std::marker::Model;
 
 /// Why changes were no window.
@@ -48,6 +50,17 @@ fn is_bad_scn(scn: u64, prev: u64) -> bool
     ensures { result ≡ bad_scn (record { scn = scn; prev = prev; changes = [] }) }
 {
     scn == 0 || scn > MAX_SCN || scn <= prev
+}
+
+// Equal changes, in the same order.
+fn copy_changes(alloc: Global, changes: &[Change]) -> Result<Vec<Change>, NoMemory>
+    ensures { IfOk result (λ copies. copies.items ≡ changes.now) }
+{
+    let mut copies = Vec::with_capacity(alloc, changes.len())?;
+    for change in changes {
+        copies.push(change.copy(alloc)?)?;
+    }
+    Ok(copies)
 }
 
 // The bytes that the changes take on the wire.
@@ -109,6 +122,18 @@ impl Window {
             prev,
             changes,
             size,
+        })
+    }
+
+    /// An equal window.
+    pub fn copy(&self, alloc: Global) -> Result<Window, NoMemory>
+        ensures { IfOk result (λ window. window ≡ self.now) }
+    {
+        Ok(Window {
+            scn: self.scn,
+            prev: self.prev,
+            changes: copy_changes(alloc, &self.changes)?,
+            size: self.size,
         })
     }
 

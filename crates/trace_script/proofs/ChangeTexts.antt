@@ -13,11 +13,12 @@ use Rattle.bus_types.specs.declared.change.Change.{Change}
 use Rattle.bus_types.specs.declared.limits.TheConstants.{MAX_PAYLOAD}
 use Rattle.bus_types.specs.Change.{IsKey, IsChange, AreChanges, payload_size}
 use Rattle.bus_types.specs.Script.{key_text}
-use Rattle.trace_script.specs.Words.{cut_at, number_of, is_digit, max_u64, key_of, payload_of, put_or_delete, change_of, changes_of}
+use Rattle.bus_types.specs.Text.{number_of, is_digit, max_u64, cut_at}
+use Rattle.trace_script.specs.Words.{key_of, payload_of, put_or_delete, change_of, changes_of}
 use Rattle.trace_script.specs.Spelling.{put_text, change_text, AreBytesOf}
-use Rattle.trace_script.proofs.Steps.{bind_some, map_some}
-use Rattle.trace_script.proofs.Numbers.{all_digits-decimal, number_taken, number_again}
-use Rattle.trace_script.proofs.Cuts.{Lacks-from_test, cut_taken, cut_again, cut_none}
+use Rattle.bus_types.proofs.Options.{bind_some, map_some}
+use Rattle.bus_types.proofs.Numbers.{all_digits-decimal, number_taken, number_again}
+use Rattle.bus_types.proofs.Cuts.{Lacks-from_test, cut_taken, cut_again, cut_none}
 use Rattle.trace_script.proofs.HexText.{payload_taken, payload_again, all_bytes}
 
 -- ---- keys

@@ -5,7 +5,8 @@ use Rattle.bus_types.specs.declared.change.Change.{Change}
 use Rattle.trace_script.specs.declared.fault.LineFault.{LineFault}
 use Rattle.trace_script.specs.declared.fault.LineFault.TheVariants.{BadLine, NoMemory}
 use Rattle.trace_script.specs.Reading.{Refuses}
-use Rattle.trace_script.specs.Words.{change_of, changes_of, ◌>>=◌}
+use Rattle.bus_types.specs.Text.{◌>>=◌}
+use Rattle.trace_script.specs.Words.{change_of, changes_of}
 
 -- what was read, before what is still to read
 abbrev pub with_front : List Change → Option (List Change) → Option (List Change)

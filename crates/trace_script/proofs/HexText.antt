@@ -10,7 +10,7 @@ use Rattle.hex.specs.Hex.{IsBytes, decode_of, decode_pairs, digit_or_error, enco
 use Rattle.hex.proofs.HexLemmas.{decode_of-encode_lower, decode_of-even, decode_of-ok}
 use Rattle.bus_types.specs.declared.limits.TheConstants.{MAX_PAYLOAD}
 use Rattle.trace_script.specs.Words.{is_lower_hex, payload_of}
-use Rattle.trace_script.proofs.Steps.{bind_some, chosen}
+use Rattle.bus_types.proofs.Options.{bind_some, chosen}
 
 -- ---- digits
 

@@ -1,7 +1,4 @@
 pub mod Changes
-pub mod Steps
-pub mod Numbers
-pub mod Cuts
 pub mod HexText
 pub mod ChangeTexts
 pub mod WordTexts

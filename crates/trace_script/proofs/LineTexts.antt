@@ -15,12 +15,13 @@ use Rattle.trace_script.specs.declared.fault.LineFault.{LineFault}
 use Rattle.trace_script.specs.declared.fault.LineFault.TheVariants.{BadLine, NoMemory}
 use Rattle.trace_script.specs.declared.line.Line.{Line}
 use Rattle.trace_script.specs.declared.line.Line.TheVariants.{Blank, Consumer, Commit, Feed, Poll, Show}
-use Rattle.trace_script.specs.Words.{words_of, number_of, is_name_text, name_of, max_u64, changes_of}
+use Rattle.bus_types.specs.Text.{number_of, max_u64}
+use Rattle.trace_script.specs.Words.{words_of, is_name_text, name_of, changes_of}
 use Rattle.trace_script.specs.Lines.{is_blank, consumer_of, commit_of, feed_of, poll_of, show_of, words_line, line_of}
 use Rattle.trace_script.specs.Spelling.{IsName, IsLine, Spells, change_text, line_words}
 use Rattle.trace_script.specs.Reading.{Reads}
-use Rattle.trace_script.proofs.Steps.{bind_some, chosen}
-use Rattle.trace_script.proofs.Numbers.{number_taken, number_again}
+use Rattle.bus_types.proofs.Options.{bind_some, chosen}
+use Rattle.bus_types.proofs.Numbers.{number_taken, number_again}
 use Rattle.trace_script.proofs.ChangeTexts.{changes_taken, changes_again}
 use Rattle.trace_script.proofs.WordTexts.{IsWord, words_again, no_return, IsWord-decimal, IsWord-name, words-changes}
 

@@ -12,11 +12,12 @@ use Rattle.bus_types.specs.declared.change.Key.TheVariants.{Long}
 use Rattle.bus_types.specs.declared.change.Change.{Change}
 use Rattle.bus_types.specs.Change.{IsKey, IsChange, AreChanges}
 use Rattle.bus_types.specs.Script.{key_text}
-use Rattle.trace_script.specs.Words.{words_of, is_digit, is_lower_hex, is_name_byte, is_name_text}
+use Rattle.bus_types.specs.Text.{is_digit}
+use Rattle.trace_script.specs.Words.{words_of, is_lower_hex, is_name_byte, is_name_text}
 use Rattle.trace_script.specs.Spelling.{put_text, change_text, AreBytesOf}
-use Rattle.trace_script.proofs.Cuts.{Lacks-from_test}
+use Rattle.bus_types.proofs.Cuts.{Lacks-from_test}
 use Rattle.trace_script.proofs.HexText.{all_lower-encode_lower}
-use Rattle.trace_script.proofs.Numbers.{all_digits-decimal}
+use Rattle.bus_types.proofs.Numbers.{all_digits-decimal}
 
 -- neither a space nor a CR
 abbrev pub is_word_byte : ℕ → Bool

@@ -8,7 +8,7 @@ use Rattle.trace_script.specs.declared.line.Line.{Line}
 use Rattle.trace_script.specs.declared.line.Line.TheVariants.{Blank, Consumer, Commit, Feed, Poll, Show}
 use Rattle.trace_script.specs.Lines.{line_of}
 use Rattle.trace_script.specs.Spelling.{IsLine, IsInRange, Spells, change_text, line_text}
-use Rattle.trace_script.specs.Writing.{Appends}
+use Rattle.bus_types.specs.Text.{Appends}
 use Rattle.trace_script.proofs.LineTexts.{line_again}
 
 -- ---- texts that are appended

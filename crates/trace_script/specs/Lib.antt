@@ -1,8 +1,6 @@
 pub mod Words
 pub mod Name
-pub mod Value
 pub mod Lines
 pub mod Spelling
 pub mod Reading
 pub mod Run
-pub mod Writing

@@ -3,7 +3,8 @@ use Rattle.std.specs.Prelude.{ℕ, Bool, true, if◌then◌else◌, ◌==◌, na
 use Rattle.std.specs.List.{list_any}
 use Rattle.trace_script.specs.declared.line.Line.{Line}
 use Rattle.trace_script.specs.declared.line.Line.TheVariants.{Blank, Consumer, Commit, Feed, Poll, Show}
-use Rattle.trace_script.specs.Words.{◌>>=◌, words_of, number_of, name_of, changes_of, max_u64}
+use Rattle.bus_types.specs.Text.{◌>>=◌, number_of, max_u64}
+use Rattle.trace_script.specs.Words.{words_of, name_of, changes_of}
 
 -- `consumer NAME all`
 unfoldable pub consumer_of : List (List ℕ) → Option Line

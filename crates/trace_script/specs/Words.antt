@@ -7,34 +7,11 @@ use Rattle.bus_types.specs.declared.change.Key.{Key}
 use Rattle.bus_types.specs.declared.change.Key.TheVariants.{Long}
 use Rattle.bus_types.specs.declared.change.Change.{Change}
 use Rattle.bus_types.specs.declared.limits.TheConstants.{MAX_PAYLOAD}
-
-infixl 10 ◌>>=◌
-abbrev pub ◌>>=◌ : {A B : Type 0} → Option A → (A → Option B) → Option B
-o >>= f = option_and_then f o
+use Rattle.bus_types.specs.Text.{◌>>=◌, cut_at, is_digit, number_of, max_u64}
 
 -- the parts between spaces; two spaces in a row, or one at an end, leave an empty part, which is no word
 abbrev pub words_of : List ℕ → List (List ℕ)
 words_of bytes = slice_split (λ b. b == 32) bytes
-
--- what stands before and after the first such byte
-abbrev pub cut_at : ℕ → List ℕ → Option (List ℕ × List ℕ)
-cut_at byte bytes = option_map (λ i. (take i bytes, drop (i + 1) bytes)) (position (λ b. b == byte) bytes)
-
--- ---- numbers
-
-abbrev pub is_digit : ℕ → Bool
-is_digit b = nat_le 48 b && nat_le b 57
-
-abbrev pub value_from : ℕ → List ℕ → ℕ
-value_from n [] = n
-value_from n (b ∷ bs) = value_from (n * 10 + (b - 48)) bs
-
--- decimal digits, at least one, without a leading zero but `0` itself
-abbrev pub is_numeral : List ℕ → Bool
-is_numeral bytes = list_all is_digit bytes && nat_lt 0 (length bytes) && (length bytes == 1 || nat_lt 48 (slice_index bytes 0))
-
-unfoldable pub number_of : ℕ → List ℕ → Option ℕ
-number_of max bytes = if is_numeral bytes && nat_le (value_from 0 bytes) max then Some (value_from 0 bytes) else None
 
 -- ---- names
 
@@ -48,9 +25,6 @@ unfoldable pub name_of : List ℕ → Option (List ℕ)
 name_of bytes = if is_name_text bytes then Some bytes else None
 
 -- ---- changes
-
-abbrev pub max_u64 : ℕ
-max_u64 = 18446744073709551615
 
 unfoldable pub key_of : List ℕ → Option Key
 key_of bytes = option_map Long (number_of max_u64 bytes)

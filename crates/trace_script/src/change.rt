@@ -3,7 +3,8 @@ ghost use Rattle.std.specs.Result.{result_ok};
 ghost use Rattle.std.specs.List.{list_all};
 ghost use Rattle.hex.specs.Hex.{decode_of};
 ghost use Rattle.trace_script.specs.Reading.{Reads};
-ghost use Rattle.trace_script.specs.Words.{cut_at, is_lower_hex, key_of, payload_of, put_or_delete, change_of, changes_of, number_of};
+ghost use Rattle.bus_types.specs.Text.{number_of, cut_at};
+ghost use Rattle.trace_script.specs.Words.{is_lower_hex, key_of, payload_of, put_or_delete, change_of, changes_of};
 
 use crate::fault::LineFault;
 use crate::number::number;

@@ -6,7 +6,7 @@ ghost use Rattle.bus_types.specs.Script.{key_text};
 ghost use Rattle.bus_types.specs.declared.limits.TheConstants.{MAX_PAYLOAD};
 ghost use Rattle.trace_script.specs.Lines.{line_of};
 ghost use Rattle.trace_script.specs.Spelling.{AreBytesOf, change_text, line_text, IsLine, IsInRange, Spells};
-ghost use Rattle.trace_script.specs.Writing.{Appends};
+ghost use Rattle.bus_types.specs.Text.{Appends};
 
 use crate::line::Line;
 use crate::name::Name;

@@ -1,6 +1,6 @@
 -- What steps that may fail show where they give a value.
 use Rattle.std.proofs.Common.{◌≡◌, Bool, true, false, cond, ◌⊎◌, inl, inr, Option, Some, None, option_map, refl}
-use Rattle.trace_script.specs.Words.{◌>>=◌}
+use Rattle.bus_types.specs.Text.{◌>>=◌}
 
 pub bind_some : {A B : Type 0} (o : Option A) (f : A → Option B) (y : B) → (o >>= f) ≡ Some y → (x : A) × (o ≡ Some x) × (f x ≡ Some y)
 bind_some (Some x) f y h = (x, refl, h)

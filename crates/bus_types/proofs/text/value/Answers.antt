@@ -1,9 +1,8 @@
 use Rattle.std.proofs.Common.{◌≡◌, ℕ, ◌+◌, ◌-◌, ◌*◌, ◌<◌, ◌≤◌, List, [], ◌∷◌, length, get_or, drop, None, refl, arith}
 use Rattle.std.proofs.lemmas.Bool.Decides.{nat_tests}
 use Rattle.std.proofs.lemmas.List.{at_drop_more}
-use Rattle.trace_script.specs.Words.{value_from}
-use Rattle.trace_script.specs.Value.{u64_of}
-use Rattle.trace_script.proofs.number.value.Goals as goal
+use Rattle.bus_types.specs.Text.{value_from, u64_of}
+use Rattle.bus_types.proofs.text.value.Goals as goal
 
 -- more digits never make less
 value_from-ge : (n : ℕ) (digits : List ℕ) → n ≤ value_from n digits

@@ -6,7 +6,7 @@ use Rattle.std.proofs.lemmas.Bool.{and_parts, and_from, or_cases, or_right, leb-
 use Rattle.std.proofs.lemmas.Fmt.{decimal-digits_value, digits_decimal, digits_value-decimal, decimal_nonempty, first_decimal, decimal_digit}
 use Rattle.std.proofs.lemmas.Option.{cond_some}
 use Rattle.std.proofs.lemmas.Str.Parse.{IsNumeralModel, numerals_by_fold}
-use Rattle.trace_script.specs.Words.{is_digit, is_numeral, number_of, value_from}
+use Rattle.bus_types.specs.Text.{is_digit, is_numeral, number_of, value_from}
 
 own : IsNumeralModel (λ digits. list_all is_digit digits ≡ true) (value_from 0)
 own = numerals_by_fold _ (search rules) value_from (search rules)

@@ -6,8 +6,8 @@ use Rattle.std.proofs.lemmas.List.{drop_more, take-append-drop, get_or_append_le
 use Rattle.std.proofs.lemmas.List.Elements.{All-nil, All-cons, All-get_or}
 use Rattle.std.proofs.lemmas.List.Quantifiers.{position-Some}
 use Rattle.std.proofs.lemmas.List.Sums.{position_or_len_is}
-use Rattle.trace_script.specs.Words.{cut_at}
-use Rattle.trace_script.proofs.Steps.{map_some}
+use Rattle.bus_types.specs.Text.{cut_at}
+use Rattle.bus_types.proofs.Options.{map_some}
 
 -- no byte is this one
 abbrev pub Lacks : ℕ → List ℕ → Type 0

@@ -1,6 +1,6 @@
 use Rattle.std.proofs.Common.{◌≡◌, ◌<◌, ◌^◌, drop}
-use Rattle.trace_script.specs.Words.{value_from}
-use Rattle.trace_script.proofs.number.value.Given as goal
+use Rattle.bus_types.specs.Text.{value_from}
+use Rattle.bus_types.proofs.text.value.Given as goal
 
 abbrev pub invariant-loop-digit : goal.invariant-loop-digit
 invariant-loop-digit l = record {
