@@ -50,3 +50,8 @@ abbrev pub after_write : Writer → List ℕ → Writer
 after_write s bytes = if is_refused s bytes
     then record s { calls = next_count s.calls; faults = next_count s.faults }
     else record s { bytes = s.bytes ++ take (min (length bytes) (room_left s)) bytes; calls = next_count s.calls }
+
+-- a sink in memory that grows: the bytes written, and how often it has failed
+pub record Grown : Type 0 where
+  pub bytes : List ℕ
+  pub faults : ℕ

@@ -3,6 +3,7 @@
 //! `read_all`, and never learn whether the bytes are those of a file, a terminal or a list in memory.
 #![tactic(auto)]
 
+mod growing;
 mod memory;
 mod read;
 mod sink;
@@ -10,6 +11,7 @@ mod source;
 mod standard;
 mod write;
 
+pub use growing::GrowingSink;
 pub use memory::{MemorySink, MemorySource};
 pub use read::{ReadFault, read_all};
 pub use sink::Sink;

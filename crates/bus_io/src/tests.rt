@@ -110,3 +110,12 @@ fn adapters_pass_bytes_on(rt: HostRuntime) -> Result<(), Fail> {
     assert_eq!(rt; room, *b"abcd");
     Ok(())
 }
+
+#[test]
+fn a_growing_sink_takes_all_behind_what_it_has(rt: HostRuntime) -> Result<(), Fail> {
+    let mut sink = GrowingSink::new(Vec::from_slice(rt.alloc(), b"ab")?);
+    assert_eq!(rt; sink.write(b"cd"), Ok(2));
+    assert_eq!(rt; write_all(&mut sink, b"e"), Ok(()));
+    assert_eq!(rt; sink.into_bytes().as_slice(), b"abcde".as_slice());
+    Ok(())
+}
