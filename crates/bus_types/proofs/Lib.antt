@@ -2,6 +2,7 @@ pub mod Names
 pub mod Entries
 pub mod TableLaws
 pub mod Stretches
+pub mod Floors
 pub mod Runs
 pub mod Options
 pub mod Numbers
