@@ -1,9 +1,9 @@
 ghost use Rattle.std.specs.Prelude.{◌≡◌, ◌+◌, ◌<◌, ◌≤◌, ◌^◌, [], length, drop};
 ghost use Rattle.window_stream.specs.Stream.{Split, new_split, Feeds, FeedsGood};
 
-use crate::item::{Events, Follows};
 use crate::scan::{Stop, scan_all};
 use bus_types::Window;
+use event_codec::{Events, Follows};
 use std::alloc::Global;
 use std::marker::Model;
 
@@ -39,7 +39,7 @@ impl Model for Splitter {
 
     ghost Value = { Split };
 
-    ghost use Rattle.window_stream.specs.Item.{since_of, open_in};
+    ghost use Rattle.event_codec.specs.Items.{since_of, open_in};
     ghost use Rattle.window_stream.specs.Scan.{IsScanned};
 
     ghost view = { λ s. record { since = since_of s.follows; given = s.given; rest = s.rest.items; bad = s.bad } };
