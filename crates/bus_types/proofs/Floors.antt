@@ -498,7 +498,7 @@ fitting_found max n (w ∷ ws) h =
     ]
 
 -- between an SCN and a later end of windows stands a window
-end_found : (prev scn : ℕ) (ws : List Span) → Rises prev ws → prev ≤ scn → scn < end_from prev ws → 0 < length (windows_between scn (end_from prev ws) ws)
+pub end_found : (prev scn : ℕ) (ws : List Span) → Rises prev ws → prev ≤ scn → scn < end_from prev ws → 0 < length (windows_between scn (end_from prev ws) ws)
 end_found prev scn [] r h below = absurd (omega arith)
 end_found prev scn (w ∷ ws) r h below =
     let end = end_from w.scn ws in

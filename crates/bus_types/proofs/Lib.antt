@@ -3,6 +3,7 @@ pub mod Entries
 pub mod TableLaws
 pub mod Stretches
 pub mod Floors
+pub mod Places
 pub mod Runs
 pub mod Options
 pub mod Numbers

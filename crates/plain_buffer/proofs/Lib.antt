@@ -1,0 +1,5 @@
+pub mod Evicting
+pub mod Publishing
+pub mod Runs
+pub mod Sending
+pub mod Serving

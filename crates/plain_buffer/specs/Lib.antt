@@ -1,0 +1,4 @@
+pub mod Buffer
+pub mod Reply
+pub mod Run
+pub mod Send

@@ -1,0 +1,154 @@
+ghost use Rattle.std.specs.Prelude.{◌≡◌, ◌≤◌, ◌<◌, ◌+◌, ◌∷◌, [], List, length, take, drop, IfOk, IfErr, OnOk, OnErr};
+ghost use Rattle.std.specs.Io.KnownBytes.{Appends};
+ghost use Rattle.bus_types.specs.Causes.{HasCause};
+ghost use Rattle.bus_types.specs.Cut.{cuts};
+ghost use Rattle.bus_types.specs.Window.{Span};
+ghost use Rattle.bus_types.specs.Timeline.{windows_between};
+ghost use Rattle.bus_types.specs.Relay.{fitting, new_relay, published, answer_of, StandsFor};
+ghost use Rattle.plain_buffer.specs.Reply.{IsServed, IsInRange, reply_bytes};
+
+use crate::kept::Kept;
+use crate::run::{cut_size, longest_run};
+use crate::send::send_windows;
+use bus_io::{Sink, WriteFault};
+use bus_types::{Accepts, MAX_SCN, NoMemory, Window};
+use event_codec::Served;
+use std::alloc::Global;
+use std::collections::VecDeque;
+use std::marker::Model;
+
+/// A relay that keeps its windows in a list: it evicts the oldest ones where a new one would not fit, and serves those
+/// that it keeps. Contracts see its room, its floor, its tail and the windows.
+#[derive(Debug, Drop)]
+pub struct PlainBuffer {
+    bytes: u64,
+    windows: u32,
+    kept: Kept,
+    tail: u64,
+}
+
+impl Model for PlainBuffer {
+    ghost use Rattle.bus_types.specs.Relay.{Relay};
+    ghost use Rattle.plain_buffer.specs.Buffer.{IsBuffer};
+
+    ghost Value = { Relay };
+
+    ghost view = { λ b. record {
+      room = record { bytes = b.bytes; windows = b.windows };
+      floor = b.kept.floor;
+      tail = b.tail;
+      kept = b.kept.windows.items;
+    } };
+
+    ghost invariant = { λ b.
+        let relay : Relay = record { room = record { bytes = b.bytes; windows = b.windows }; floor = b.kept.floor; tail = b.tail; kept = b.kept.windows.items } in
+        IsBuffer relay b.kept.size };
+}
+
+impl PlainBuffer {
+    /// A relay that published no window yet. It keeps at most so many bytes of windows in full, from 1,048,576 to
+    /// 268,435,456, and at most so many windows, from 1 to 65,536.
+    pub fn new(alloc: Global, bytes: u64, windows: u32) -> Result<PlainBuffer, NoMemory>
+        requires some_bytes { 1048576 ≤ bytes }
+        requires few_bytes { bytes ≤ 268435456 }
+        requires some_windows { 1 ≤ windows }
+        requires few_windows { windows ≤ 65536 }
+        ensures { IfOk result (λ b. b ≡ new_relay (record { bytes = bytes; windows = windows })) }
+    {
+        Ok(PlainBuffer {
+            bytes,
+            windows,
+            kept: Kept::new(alloc),
+            tail: 0,
+        })
+    }
+
+    /// Publishes an equal window, which is chained to the newest one, and evicts the fewest oldest windows that make it
+    /// fit. After want of memory the relay is as before.
+    pub fn publish(&mut self, alloc: Global, window: &Window) -> Result<(), NoMemory>
+        requires chained { window.now.prev ≡ self.old.tail }
+        requires full { 0 < length window.now.changes }
+        ensures ok { OnOk result (self.new ≡ published self.old window.now) }
+        ensures err { OnErr result (self.new ≡ self.old) }
+
+        // One that stands for a timeline still does, where the window is the next of it.
+        ensures stands { OnOk result ((ws : List Span) → StandsFor ws self.old → windows_between self.old.tail window.now.scn ws ≡ window.now ∷ [] → StandsFor ws self.new) }
+    {
+        self.kept.push(alloc, window)?;
+        self.kept.evict(self.bytes, self.windows);
+        self.tail = window.scn();
+        Ok(())
+    }
+
+    /// The SCN of the newest window that it evicted, or 0.
+    pub fn floor(&self) -> u64
+        ensures value { result ≡ self.now.floor }
+        ensures range { result ≤ MAX_SCN }
+    {
+        self.kept.floor
+    }
+
+    /// The SCN of the newest window that it published, or 0.
+    pub fn tail(&self) -> u64
+        ensures value { result ≡ self.now.tail }
+        ensures range { result ≤ MAX_SCN }
+    {
+        self.tail
+    }
+
+    /// Answers a consumer that asks for what a filter leaves of the windows after `scn`, in at most `max` bytes, and
+    /// sends the windows of the answer, if it has any: their accepted events, each window with its end-of-period mark.
+    /// It takes no memory. After a fault the sink has so many bytes of the windows as the fault tells.
+    pub fn serve<F: Accepts, W: Sink>(
+        &self,
+        scn: u64,
+        filter: &F,
+        max: u32,
+        out: &mut W,
+    ) -> Result<Served, WriteFault>
+        ensures answer { IfOk result (λ s. IsServed s (answer_of self.now scn (F.test filter.now) max)) }
+        ensures range { IfOk result IsInRange }
+        ensures written { OnOk result (Appends (W.written out.old) (W.written out.new) (reply_bytes (answer_of self.now scn (F.test filter.now) max))) }
+        ensures part { IfErr result (λ fault. Appends (W.written out.old) (W.written out.new) (take fault.written (reply_bytes (answer_of self.now scn (F.test filter.now) max)))) }
+        ensures short { IfErr result (λ fault. fault.written < length (reply_bytes (answer_of self.now scn (F.test filter.now) max))) }
+        ensures cause { HasCause (W.faults out.old) (W.faults out.new) result }
+    {
+        if scn < self.kept.floor {
+            return Ok(Served::NotFound(self.kept.floor));
+        }
+        if scn >= self.tail {
+            return Ok(Served::Empty(self.tail));
+        }
+        let from = self.kept.place_after(scn);
+        serve_from(&self.kept.windows, from, filter, u64::from(max), out)
+    }
+}
+
+// Serves what fits of the windows from a place on, where one stands.
+fn serve_from<F: Accepts, W: Sink>(
+    windows: &VecDeque<Window>,
+    from: usize,
+    filter: &F,
+    max: u64,
+    out: &mut W,
+) -> Result<Served, WriteFault>
+    requires { from < length windows.now.items }
+    ensures range { IfOk result IsInRange }
+    ensures answer { IfOk result (λ s. IsServed s (fitting max (cuts (F.test filter.now) (drop from windows.now.items)))) }
+    ensures written { OnOk result (Appends (W.written out.old) (W.written out.new) (reply_bytes (fitting max (cuts (F.test filter.now) (drop from windows.now.items))))) }
+    ensures part { IfErr result (λ fault. Appends (W.written out.old) (W.written out.new) (take fault.written (reply_bytes (fitting max (cuts (F.test filter.now) (drop from windows.now.items)))))) }
+    ensures short { IfErr result (λ fault. fault.written < length (reply_bytes (fitting max (cuts (F.test filter.now) (drop from windows.now.items))))) }
+    ensures cause { HasCause (W.faults out.old) (W.faults out.new) result }
+{
+    let need = cut_size(&windows[from], filter);
+    if need > max {
+        return Ok(Served::TooSmall(need));
+    }
+    let run = longest_run(windows, from, filter, max);
+    send_windows(windows, from, run.count, filter, out)?;
+    Ok(Served::Windows {
+        count: run.count,
+        last: run.last,
+        bytes: run.bytes,
+    })
+}
