@@ -8,7 +8,7 @@ use Rattle.bus_types.specs.declared.change.Key.{Key}
 use Rattle.bus_types.specs.declared.change.Key.TheVariants.{Long}
 use Rattle.bus_types.specs.Change.{change_size}
 use Rattle.event_codec.specs.declared.head.Head.{Head}
-use Rattle.event_codec.specs.Bytes.{Event, IsEvent, put_bytes, event_bytes, mark_bytes}
+use Rattle.event_codec.specs.Bytes.{Event, IsEvent, put_bytes, payload_bytes, event_bytes, mark_bytes}
 use Rattle.event_codec.specs.Head.{spelled}
 use Rattle.event_codec.specs.Reading.{head_front, with_payload, event_front}
 use Rattle.event_codec.proofs.Numbers.{IsBytes}
@@ -45,26 +45,22 @@ parts_again h payload rest is len =
 
 -- ---- the head of an event
 
-abbrev pub payload_of : Option (List ℕ) → List ℕ
-payload_of None = []
-payload_of (Some payload) = payload
-
 abbrev pub put_head : ℕ → ℕ → Key → Option (List ℕ) → Head
 put_head scn source (Long key) (Some payload) = record { kind = 1; source = source; scn = scn; key = key; len = length payload }
 put_head scn source (Long key) None = record { kind = 2; source = source; scn = scn; key = key; len = 0 }
 
 abbrev pub head_and_payload : Event → Head × List ℕ
-head_and_payload e = (put_head e.scn e.change.source e.change.key e.change.put, payload_of e.change.put)
+head_and_payload e = (put_head e.scn e.change.source e.change.key e.change.put, payload_bytes e.change.put)
 
 -- the event of a head and a payload
 abbrev pub joined : Head × List ℕ → Event
 joined x = record { scn = x.0.scn; change = record { source = x.0.source; key = Long x.0.key; put = cond (eqb x.0.kind 1) (Some x.1) None } }
 
-put_spelled : (scn source : ℕ) (key : Key) (put : Option (List ℕ)) → put_bytes scn source key put ≡ spelled (put_head scn source key put) ++ payload_of put
+put_spelled : (scn source : ℕ) (key : Key) (put : Option (List ℕ)) → put_bytes scn source key put ≡ spelled (put_head scn source key put) ++ payload_bytes put
 put_spelled scn source (Long key) (Some payload) = refl
 put_spelled scn source (Long key) None = refl
 
-put_joined : (scn source : ℕ) (key : Key) (put : Option (List ℕ)) → joined (put_head scn source key put, payload_of put) ≡ record { scn = scn; change = record { source = source; key = key; put = put } }
+put_joined : (scn source : ℕ) (key : Key) (put : Option (List ℕ)) → joined (put_head scn source key put, payload_bytes put) ≡ record { scn = scn; change = record { source = source; key = key; put = put } }
 put_joined scn source (Long key) (Some payload) = refl
 put_joined scn source (Long key) None = refl
 
@@ -72,7 +68,7 @@ put_is_head : (scn source : ℕ) (key : Key) (put : Option (List ℕ)) → IsEve
 put_is_head scn source (Long key) (Some payload) is = record { positive = is.positive; scn = is.scn; source = is.source; key = is.key; sized = inl (refl, is.payload) }
 put_is_head scn source (Long key) None is = record { positive = is.positive; scn = is.scn; source = is.source; key = is.key; sized = inr (refl, refl) }
 
-put_len : (scn source : ℕ) (key : Key) (put : Option (List ℕ)) → length (payload_of put) ≡ (put_head scn source key put).len
+put_len : (scn source : ℕ) (key : Key) (put : Option (List ℕ)) → length (payload_bytes put) ≡ (put_head scn source key put).len
 put_len scn source (Long key) (Some payload) = refl
 put_len scn source (Long key) None = refl
 
@@ -82,8 +78,8 @@ event_again e rest is =
     let c = e.change in
     let h = put_head e.scn c.source c.key c.put in
     ap (λ (x : List ℕ). event_front (x ++ rest)) (put_spelled e.scn c.source c.key c.put)
-    ∙ ap event_front (append_assoc (spelled h) (payload_of c.put) rest)
-    ∙ parts_again h (payload_of c.put) rest (put_is_head e.scn c.source c.key c.put is) (put_len e.scn c.source c.key c.put)
+    ∙ ap event_front (append_assoc (spelled h) (payload_bytes c.put) rest)
+    ∙ parts_again h (payload_bytes c.put) rest (put_is_head e.scn c.source c.key c.put is) (put_len e.scn c.source c.key c.put)
 
 -- bytes begin with one event at most
 pub one_event : (d e : Event) (r s : List ℕ) → IsEvent d → IsEvent e → event_bytes d ++ r ≡ event_bytes e ++ s → (d ≡ e) × (r ≡ s)

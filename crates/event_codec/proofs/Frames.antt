@@ -3,9 +3,10 @@ use Rattle.std.proofs.Common.{◌≡◌, ℕ, ◌≤◌, Bool, true, false, cond
 use Rattle.std.specs.Int.{w64, from_be_bytes, to_be_bytes}
 use Rattle.std.proofs.lemmas.Nat.{from_be_bytes-to_be_bytes_8}
 use Rattle.bus_types.specs.declared.limits.TheConstants.{MAX_SCN}
-use Rattle.event_codec.specs.Frames.{Run, run_kind, Closing, IsClosing, closing_bytes, Answer, answer_kind, answer_number, IsAnswer, answer_bytes}
+use Rattle.event_codec.specs.Frames.{Run, run_kind, Closing, IsClosing, closing_bytes, answer_kind, answer_number, IsAnswer, answer_bytes}
 use Rattle.event_codec.specs.Frames.Run.{Rows, Changes}
-use Rattle.event_codec.specs.Frames.Answer.{NotFound, Empty, TooSmall, Behind, LogGone, StartDelta, StartSnapshot, Target}
+use Rattle.event_codec.specs.declared.answer.Answer.{Answer}
+use Rattle.event_codec.specs.declared.answer.Answer.TheVariants.{NotFound, Empty, TooSmall, Behind, LogGone, StartDelta, StartSnapshot, Target}
 
 -- the number behind a kind is read back
 number_back : (k n : ℕ) (rest : List ℕ) → n ≤ MAX_SCN → from_be_bytes w64 (take 8 (drop 1 (k ∷ to_be_bytes w64 n ++ rest))) ≡ n

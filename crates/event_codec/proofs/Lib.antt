@@ -8,3 +8,4 @@ pub mod Windows
 pub mod Writing
 pub mod Cuts
 pub mod Frames
+pub mod AnswerFronts

@@ -30,6 +30,11 @@ abbrev pub put_bytes : ℕ → ℕ → Key → Option (List ℕ) → List ℕ
 put_bytes scn source key (Some payload) = head_bytes 1 source scn key (length payload) ++ payload
 put_bytes scn source key None = head_bytes 2 source scn key 0
 
+-- what an event has behind its head
+abbrev pub payload_bytes : Option (List ℕ) → List ℕ
+payload_bytes (Some payload) = payload
+payload_bytes None = []
+
 abbrev pub event_bytes : Event → List ℕ
 event_bytes e = put_bytes e.scn e.change.source e.change.key e.change.put
 

@@ -1,7 +1,9 @@
 -- The bytes of closing frames and answers. Numbers are big-endian. Each value has one spelling.
-use Rattle.std.specs.Prelude.{ℕ, ◌≤◌, Bool, if◌then◌else◌, List, [], ◌∷◌, ◌++◌}
+use Rattle.std.specs.Prelude.{ℕ, ◌≤◌, Bool, ◌==◌, if◌then◌else◌, List, [], ◌∷◌, ◌++◌}
 use Rattle.std.specs.Int.{w64, to_be_bytes}
 use Rattle.bus_types.specs.declared.limits.TheConstants.{MAX_SCN}
+use Rattle.event_codec.specs.declared.answer.Answer.{Answer}
+use Rattle.event_codec.specs.declared.answer.Answer.TheVariants.{NotFound, Empty, TooSmall, Behind, LogGone, StartDelta, StartSnapshot, Target}
 
 -- what a closing frame ends: a run of rows, or of changes
 pub data Run : Type 0 where
@@ -11,6 +13,10 @@ pub data Run : Type 0 where
 abbrev pub run_kind : Run → ℕ
 run_kind Rows = 4
 run_kind Changes = 5
+
+-- the run of a kind
+abbrev pub run_of : ℕ → Run
+run_of kind = if kind == 4 then Rows else Changes
 
 -- the end of a run: its SCN, and whether an item is left
 pub record Closing : Type 0 where
@@ -24,19 +30,7 @@ pub record IsClosing (c : Closing) : Type 0 where
 abbrev pub closing_bytes : Closing → List ℕ
 closing_bytes c = run_kind c.run ∷ to_be_bytes w64 c.scn ++ (if c.more then 1 else 0) ∷ []
 
--- what is answered where no window, row or change is sent: the SCN of the newest evicted window, that of the newest
--- published one or 0, the size that is needed, the SCN that a bootstrap has come to, where its log begins, and the SCNs
--- where a delta, a snapshot or a catch-up goes to
-pub data Answer : Type 0 where
-  NotFound : ℕ → Answer
-  Empty : ℕ → Answer
-  TooSmall : ℕ → Answer
-  Behind : ℕ → Answer
-  LogGone : ℕ → Answer
-  StartDelta : ℕ → Answer
-  StartSnapshot : ℕ → Answer
-  Target : ℕ → Answer
-
+-- what is answered where no window, row or change is sent
 abbrev pub answer_kind : Answer → ℕ
 answer_kind (NotFound n) = 32
 answer_kind (Empty n) = 33

@@ -3,6 +3,8 @@ use Rattle.std.specs.Prelude.{ℕ, Bool, ◌&&◌, ◌||◌, ◌==◌, nat_lt, n
 use Rattle.std.specs.Int.{Width, w16, w32, w64, byte_len, from_be_bytes}
 use Rattle.bus_types.specs.declared.limits.TheConstants.{MAX_SCN, MAX_PAYLOAD}
 use Rattle.event_codec.specs.declared.head.Head.{Head}
+use Rattle.event_codec.specs.declared.answer.Answer.{Answer}
+use Rattle.event_codec.specs.declared.answer.Answer.TheVariants.{NotFound, Empty, TooSmall, Behind, LogGone, StartDelta, StartSnapshot, Target}
 
 -- the number of a width at a place
 unfoldable pub number_at : Width → ℕ → List ℕ → ℕ
@@ -50,3 +52,23 @@ mark_front bytes =
     let prev = number_at w64 9 bytes in
     if nat_lt MAX_SCN scn || nat_le scn prev then None else Some (scn, prev))
     else None
+
+-- the answer of a kind, with its number
+abbrev pub answer_of : ℕ → ℕ → Option Answer
+answer_of kind number =
+    if kind == 32 then Some (NotFound number)
+    else if kind == 33 then Some (Empty number)
+    else if kind == 34 then Some (TooSmall number)
+    else if kind == 35 then Some (Behind number)
+    else if kind == 36 then Some (LogGone number)
+    else if kind == 37 then Some (StartDelta number)
+    else if kind == 38 then Some (StartSnapshot number)
+    else if kind == 39 then Some (Target number)
+    else None
+
+-- the answer that bytes begin with
+unfoldable pub answer_front : List ℕ → Option Answer
+answer_front bytes =
+    if nat_lt (length bytes) 9 then None
+    else (let number = number_at w64 1 bytes in
+    if nat_lt MAX_SCN number then None else answer_of (slice_index bytes 0) number)

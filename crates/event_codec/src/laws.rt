@@ -1,7 +1,8 @@
 ghost use Rattle.std.specs.Prelude.{◌≡◌, List, [], ℕ, ◌++◌};
 ghost use Rattle.bus_types.specs.Window.{Span, IsSpan};
 ghost use Rattle.event_codec.specs.Bytes.{window_bytes};
-ghost use Rattle.event_codec.specs.Frames.{Closing, IsClosing, closing_bytes, Answer, IsAnswer, answer_bytes};
+ghost use Rattle.event_codec.specs.declared.answer.Answer.{Answer};
+ghost use Rattle.event_codec.specs.Frames.{Closing, IsClosing, closing_bytes, IsAnswer, answer_bytes};
 
 /// A law of the bytes of windows: none is a front of another's, so a stream of windows is read in one way only, and
 /// each window has one spelling.

@@ -6,13 +6,13 @@ use crate::number::{tail, u64_at};
 use bus_types::MAX_SCN;
 
 // The bytes of a mark.
-pub(crate) const MARK_SIZE: usize = 17;
+const MARK_SIZE: usize = 17;
 
 // The kind of a mark.
 const MARK: u8 = 3;
 
-// The bytes of the mark of a window.
-pub(crate) fn bytes_of_mark(scn: u64, prev: u64) -> [u8; MARK_SIZE]
+/// The bytes of the end-of-period mark of a window: its SCN, and the SCN of the window before it or 0.
+pub fn mark_bytes(scn: u64, prev: u64) -> [u8; 17]
     ensures { result ≡ mark_bytes scn prev }
 {
     let scn = scn.to_be_bytes();

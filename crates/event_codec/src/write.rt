@@ -2,11 +2,11 @@ ghost use Rattle.std.specs.Prelude.{◌≡◌, ◌+◌, ◌≤◌, ◌<◌, ◌+
 ghost use Rattle.bus_types.specs.Change.{accepted, change_size, changes_size};
 ghost use Rattle.bus_types.specs.Cut.{cut};
 ghost use Rattle.bus_types.specs.Window.{span_size};
-ghost use Rattle.event_codec.specs.Bytes.{event_bytes, changes_bytes, window_bytes};
+ghost use Rattle.event_codec.specs.Bytes.{event_bytes, payload_bytes, changes_bytes, window_bytes};
 ghost use Rattle.event_codec.specs.Writing.{accepted_bytes};
 
 use crate::head::{DELETE, Head, PUT};
-use crate::mark::bytes_of_mark;
+use crate::mark::mark_bytes;
 use bus_types::{Accepts, Change, Everything, Key, NoMemory, Window};
 
 // Appends bytes for which there is room.
@@ -19,6 +19,21 @@ fn append(bytes: &[u8], out: &mut Vec<u8>)
     out.extend_from_slice(bytes).unwrap();
 }
 
+/// The bytes of a change as an event of a window, before its payload.
+pub fn event_head(scn: u64, change: &Change) -> [u8; 23]
+    ensures { event_bytes (record { scn = scn; change = change.now }) ≡ result ++ payload_bytes change.now.put }
+{
+    let source = change.source;
+    let Key::Long(key) = change.key;
+    match &change.put {
+        None => Head::new(DELETE, source, scn, key, 0).bytes(),
+        Some(payload) => {
+            let len = payload.bytes().len() as u32;
+            Head::new(PUT, source, scn, key, len).bytes()
+        }
+    }
+}
+
 // Appends a change as an event. There is room for it.
 fn append_event(scn: u64, change: &Change, out: &mut Vec<u8>)
     requires { vec_len out.old + change_size change.now ≤ vec_capacity out.old }
@@ -26,16 +41,9 @@ fn append_event(scn: u64, change: &Change, out: &mut Vec<u8>)
     ensures len { vec_len out.new ≡ vec_len out.old + change_size change.now }
     ensures capacity { vec_capacity out.old ≤ vec_capacity out.new }
 {
-    let source = change.source;
-    let Key::Long(key) = change.key;
-    match &change.put {
-        None => append(&Head::new(DELETE, source, scn, key, 0).bytes(), out),
-        Some(payload) => {
-            let payload = payload.bytes();
-            let head = Head::new(PUT, source, scn, key, payload.len() as u32);
-            append(&head.bytes(), out);
-            append(payload, out);
-        }
+    append(&event_head(scn, change), out);
+    if let Some(payload) = &change.put {
+        append(payload.bytes(), out);
     }
 }
 
@@ -87,6 +95,6 @@ pub fn write_filtered<F: Accepts>(
     out.reserve(window.size() as usize)?;
     let scn = window.scn();
     append_changes(scn, window.changes(), filter, out);
-    append(&bytes_of_mark(scn, window.prev()), out);
+    append(&mark_bytes(scn, window.prev()), out);
     Ok(())
 }

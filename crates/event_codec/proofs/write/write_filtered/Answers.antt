@@ -10,5 +10,5 @@ returns-clause-ok g c =
     let cs = c.changes.result.now in
     let events : c.append_changes.new.out.items ≡ c.args.out.now.items ++ changes_bytes c.scn-scn.result (accepted test cs) =
     c.append_changes.ensures.items ∙ ap (λ (x : List ℕ). x ++ changes_bytes c.scn-scn.result (accepted test cs)) c.in_ok-reserve.ensures.items in
-    let all = rw c.bytes_of_mark.ensures at c.append.ensures.items in
+    let all = rw c.mark_bytes.ensures at c.append.ensures.items in
     appended_window test c.args.window.now c.args.out.now.items c.append_changes.new.out.items c.append.new.out.items c.scn-scn.result c.prev.result cs c.scn-scn.ensures.value c.prev.ensures c.changes.ensures events all

@@ -1,0 +1,10 @@
+use Rattle.std.proofs.Common.{arith}
+use Rattle.event_codec.proofs.AnswerFronts.{answer_found, answer_none}
+use Rattle.event_codec.proofs.answer.answer_at.Goals as goal
+
+pub returns-clause-found : goal.returns-clause-found
+returns-clause-found c =
+    answer_found c.args.bytes.now c.args.place c.tail.result.now c.front.result (λ i. omega (arith, c.type_inv.bytes i)) c.tail.ensures c.front.ensures
+
+pub returns-clause-none : goal.returns-clause-none
+returns-clause-none c = answer_none c.args.bytes.now c.args.place c.tail.result.now c.front.result c.tail.ensures c.front.ensures
