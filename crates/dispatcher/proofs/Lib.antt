@@ -1,0 +1,4 @@
+pub mod Lists
+pub mod Standing
+pub mod Events
+pub mod Spans
