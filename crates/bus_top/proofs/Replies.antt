@@ -7,16 +7,17 @@ use Rattle.bus_types.specs.declared.change.Key.TheVariants.{Long}
 use Rattle.bus_types.specs.declared.change.Change.{Change}
 use Rattle.bus_types.specs.Change.{head_size}
 use Rattle.event_codec.specs.Bytes.{Event, event_bytes, changes_bytes, window_bytes}
-use Rattle.event_codec.proofs.Events.{event_length}
+use Rattle.event_codec.proofs.EventBytes.{event_length}
 use Rattle.event_codec.proofs.Windows.{window_length}
 use Rattle.bus_types.specs.Script.{served_line}
 use Rattle.bus_types.specs.Window.{Span}
 use Rattle.bus_types.specs.Timeline.{IsTimeline, IsTimelineFrom, end_from, total_size, windows_between}
 use Rattle.bus_types.proofs.Stretches.{Rises, rises_take, between_rises, timeline_rises, timeline-take, between_timeline, between_end}
-use Rattle.window_stream.specs.Head.{Since, open_of, front_of}
-use Rattle.window_stream.specs.Head.Front.{Unfinished, Refused}
-use Rattle.window_stream.proofs.Readings.{one_reading}
-use Rattle.window_stream.specs.Stream.{Come, after_windows, windows_bytes, IsReading, Behind, Split, new_split, Feeds, TakesAll, FindsBad}
+use Rattle.event_codec.specs.Items.{Since, open_of, front_of}
+use Rattle.event_codec.specs.Items.Front.{Unfinished, Refused}
+use Rattle.event_codec.proofs.Readings.{one_reading}
+use Rattle.event_codec.specs.Streams.{Come, after_windows, windows_bytes, IsReading, Behind}
+use Rattle.window_stream.specs.Stream.{Split, new_split, Feeds, TakesAll, FindsBad}
 use Rattle.window_stream.specs.declared.splitter.SplitFault.{SplitFault}
 use Rattle.window_stream.specs.declared.splitter.SplitFault.TheVariants.{Bad}
 

@@ -1,5 +1,5 @@
 ghost use Rattle.std.specs.Prelude.{◌≡◌, false, IfOk};
-ghost use Rattle.window_stream.specs.Stream.{Come, windows_bytes};
+ghost use Rattle.event_codec.specs.Streams.{Come, windows_bytes};
 
 use bus_types::{NoMemory, Window};
 use event_codec::write_window;

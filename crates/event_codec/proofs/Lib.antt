@@ -1,6 +1,6 @@
 pub mod Numbers
 pub mod Heads
-pub mod Events
+pub mod EventBytes
 pub mod Marks
 pub mod Places
 pub mod Views
@@ -9,3 +9,7 @@ pub mod Writing
 pub mod Cuts
 pub mod Frames
 pub mod AnswerFronts
+pub mod Fronts
+pub mod Begun
+pub mod Streams
+pub mod Readings

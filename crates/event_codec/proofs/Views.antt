@@ -14,7 +14,7 @@ use Rattle.event_codec.specs.Head.{spelled}
 use Rattle.event_codec.specs.Reading.{event_front, mark_front}
 use Rattle.event_codec.proofs.Numbers.{IsBytes, IsBytes-drop}
 use Rattle.event_codec.proofs.Heads.{IsSized, sized_short}
-use Rattle.event_codec.proofs.Events.{head_and_payload, event_taken, event_again}
+use Rattle.event_codec.proofs.EventBytes.{head_and_payload, event_taken, event_again}
 use Rattle.event_codec.proofs.Marks.{mark_taken, mark_again}
 use Rattle.event_codec.proofs.Places.{stands_parts}
 

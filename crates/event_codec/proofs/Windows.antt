@@ -5,7 +5,7 @@ use Rattle.bus_types.specs.declared.change.Change.{Change}
 use Rattle.bus_types.specs.Change.{IsChange, AreChanges, changes_size}
 use Rattle.bus_types.specs.Window.{Span, span_size, IsSpan}
 use Rattle.event_codec.specs.Bytes.{Event, IsEvent, event_bytes, IsMark, mark_bytes, changes_bytes, window_bytes}
-use Rattle.event_codec.proofs.Events.{one_event, event_length, no_event_is_a_mark}
+use Rattle.event_codec.proofs.EventBytes.{one_event, event_length, no_event_is_a_mark}
 use Rattle.event_codec.proofs.Marks.{one_mark}
 
 abbrev event : ℕ → Change → Event

@@ -5,3 +5,5 @@ pub mod Parts
 pub mod Writing
 pub mod Head
 pub mod Frames
+pub mod Items
+pub mod Streams

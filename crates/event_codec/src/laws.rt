@@ -1,6 +1,9 @@
-ghost use Rattle.std.specs.Prelude.{◌≡◌, List, [], ℕ, ◌++◌};
+ghost use Rattle.std.specs.Prelude.{◌≡◌, ◌⊎◌, List, [], ℕ, ◌++◌, length};
 ghost use Rattle.bus_types.specs.Window.{Span, IsSpan};
-ghost use Rattle.event_codec.specs.Bytes.{window_bytes};
+ghost use Rattle.event_codec.specs.Bytes.{changes_bytes, window_bytes};
+ghost use Rattle.event_codec.specs.Items.{Since, Front};
+ghost use Rattle.event_codec.specs.Items.Front.{Unfinished, Refused};
+ghost use Rattle.event_codec.specs.Streams.{IsReading, Behind};
 ghost use Rattle.event_codec.specs.declared.answer.Answer.{Answer};
 ghost use Rattle.event_codec.specs.Frames.{Closing, IsClosing, closing_bytes, IsAnswer, answer_bytes};
 
@@ -14,4 +17,15 @@ pub fn no_window_begins_another()
 pub fn a_frame_is_read_in_one_way()
     ensures closings { (one other : Closing) → IsClosing one → IsClosing other → closing_bytes one ≡ closing_bytes other → one ≡ other }
     ensures answers { (one other : Answer) → IsAnswer one → IsAnswer other → answer_bytes one ≡ answer_bytes other → one ≡ other }
+{}
+
+/// A law of streams: bytes are read as windows and a rest in one way only, and the rest stops at one place, either at
+/// an item that isn't whole yet or at a head that can't stand. So however a stream is cut into pieces, the same windows
+/// are given, and it is bad at the same place or nowhere.
+pub fn a_stream_is_read_in_one_way()
+    ensures windows { (since : Since) (bytes : List ℕ) (ws vs : List Span) (rest other : List ℕ) →
+        IsReading since bytes ws rest → IsReading since bytes vs other → (ws ≡ vs) × (rest ≡ other) }
+    ensures place { (since : Since) (rest : List ℕ) (front other : Front) (one : Behind since rest front) (two : Behind since rest other) →
+        (front ≡ Unfinished) ⊎ (front ≡ Refused) → (other ≡ Unfinished) ⊎ (other ≡ Refused) →
+        (front ≡ other) × (length (changes_bytes one.scn one.changes) ≡ length (changes_bytes two.scn two.changes)) }
 {}

@@ -5,11 +5,11 @@ ghost use Rattle.event_codec.specs.Reading.{mark_front};
 use crate::number::{tail, u64_at};
 use bus_types::MAX_SCN;
 
-// The bytes of a mark.
-const MARK_SIZE: usize = 17;
+/// The bytes of an end-of-period mark.
+pub const MARK_SIZE: usize = 17;
 
 // The kind of a mark.
-const MARK: u8 = 3;
+pub(crate) const MARK: u8 = 3;
 
 /// The bytes of the end-of-period mark of a window: its SCN, and the SCN of the window before it or 0.
 pub fn mark_bytes(scn: u64, prev: u64) -> [u8; 17]

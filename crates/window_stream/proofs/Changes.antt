@@ -3,15 +3,12 @@ use Rattle.std.proofs.Common.{◌≡◌, ℕ, ◌<◌, ◌≤◌, Bool, true, fa
 use Rattle.std.proofs.lemmas.Bool.{eqb-true, eqb-false}
 use Rattle.std.proofs.lemmas.List.{length-append, append-nil, nil_from_length}
 use Rattle.bus_types.specs.declared.change.Change.{Change}
-use Rattle.bus_types.specs.Change.{IsChange, AreChanges}
+use Rattle.bus_types.specs.Change.{AreChanges}
 use Rattle.bus_types.specs.declared.limits.TheConstants.{MAX_SCN}
-use Rattle.event_codec.specs.Bytes.{Event, IsEvent, event_bytes, changes_bytes}
-use Rattle.event_codec.proofs.Events.{one_event, event_length}
+use Rattle.event_codec.specs.Bytes.{Event, event_bytes, changes_bytes}
+use Rattle.event_codec.proofs.EventBytes.{one_event, event_length}
+use Rattle.event_codec.proofs.Begun.{event, is_event, change_positive}
 use Rattle.window_stream.specs.Decode.{BeginsWithEvent, TakesEvent, AreEvents}
-use Rattle.window_stream.proofs.Begun.{event, change_positive}
-
-pub is_event : (n : ℕ) (c : Change) → 0 < n → n ≤ MAX_SCN → IsChange c → IsEvent (event n c)
-is_event n c positive bound is = record { positive = positive; scn = bound; source = is.source; key = is.key; payload = is.payload }
 
 pub event_not_empty : (e : Event) (rest : List ℕ) → event_bytes e ++ rest ≡ [] → ⊥
 event_not_empty e rest same = omega (arith, ap length same, length-append (event_bytes e) rest, event_length e, change_positive e.change)

@@ -1,9 +1,6 @@
-pub mod Fronts
-pub mod Begun
 pub mod Windows
 pub mod Changes
 pub mod Views
 pub mod Cut
 pub mod Scans
 pub mod Splits
-pub mod Readings

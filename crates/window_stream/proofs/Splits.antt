@@ -5,23 +5,13 @@ use Rattle.bus_types.specs.Window.{Span}
 use Rattle.event_codec.specs.Bytes.{changes_bytes}
 use Rattle.window_stream.specs.declared.splitter.SplitFault.{SplitFault}
 use Rattle.window_stream.specs.declared.splitter.SplitFault.TheVariants.{Bad, NoMemory}
-use Rattle.window_stream.specs.Head.{Since, Open, Front, front_of}
-use Rattle.window_stream.specs.Head.Front.{Unfinished, Refused}
-use Rattle.window_stream.specs.Stream.{Begins, Behind, Split, after_windows, windows_bytes, TakesAll, FindsBad, FeedsGood, FeedsFrom, Feeds}
-use Rattle.window_stream.specs.Scan.{Begun, IsScanned, Moves}
-use Rattle.window_stream.proofs.Begun.{behind_is, length_is, fits}
+use Rattle.event_codec.specs.Items.{Since, Open, front_of}
+use Rattle.event_codec.specs.Items.Front.{Unfinished, Refused}
+use Rattle.event_codec.specs.Streams.{Begun, after_windows, windows_bytes}
+use Rattle.event_codec.proofs.Begun.{behind_of, length_is, fits}
+use Rattle.window_stream.specs.Stream.{Split, TakesAll, FindsBad, FeedsGood, FeedsFrom, Feeds}
+use Rattle.window_stream.specs.Scan.{IsScanned, Moves}
 use Rattle.window_stream.proofs.Windows.{given_length}
-
--- where the scan stopped, as the bytes behind the windows say it
-abbrev behind_of : (s t : Since) (o : Open) (rest : List ℕ) (f : Front) → s ≡ t → (begun : Begun s o rest) → front_of s o (drop o.size rest) ≡ f → Behind t rest f
-behind_of s t o rest f same begun stops = record {
-  scn = begun.scn;
-  changes = begun.changes;
-  part = begun.part;
-  bytes = begun.parts;
-  begins = subst (λ (q : Since). Begins q begun.scn begun.changes) same begun.begins;
-  stops = sym (λ i. front_of (same i) (begun.known i) (behind_is s o rest begun i)) ∙ stops;
-}
 
 -- nothing can pass the bytes that there are
 pub place_fits : (s : Since) (all : List ℕ) (t : Since) (o : Open) (rest : List ℕ) (before after : List Span) → Moves s all t o rest before after → length all - length rest + o.size ≤ length all

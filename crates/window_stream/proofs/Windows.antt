@@ -4,17 +4,10 @@ use Rattle.std.proofs.lemmas.List.{append-nil, length-append, get_or-append-add}
 use Rattle.std.proofs.lemmas.List.Concat.{flat_map-append}
 use Rattle.bus_types.specs.Window.{Span}
 use Rattle.event_codec.specs.Bytes.{window_bytes}
-use Rattle.window_stream.specs.Head.{Since, Open}
-use Rattle.window_stream.specs.Stream.{Comes, Come, after_window, after_windows, windows_bytes}
-use Rattle.window_stream.specs.Scan.{IsBytes, Begun, Moves}
-
-pub come_append : (s : Since) (ws vs : List Span) → Come s ws → Come (after_windows s ws) vs → Come s (ws ++ vs)
-come_append s [] vs a b = b
-come_append s (w ∷ ws) vs a b = (a.0, come_append (after_window s w) ws vs a.1 b)
-
-pub after_append : (s : Since) (ws vs : List Span) → after_windows s (ws ++ vs) ≡ after_windows (after_windows s ws) vs
-after_append s [] vs = refl
-after_append s (w ∷ ws) vs = after_append (after_window s w) ws vs
+use Rattle.event_codec.specs.Items.{Since, Open}
+use Rattle.event_codec.specs.Streams.{Comes, Come, after_window, after_windows, windows_bytes, Begun}
+use Rattle.event_codec.proofs.Streams.{come_append, after_append}
+use Rattle.window_stream.specs.Scan.{IsBytes, Moves}
 
 -- nothing was given
 pub moves_none : (s : Since) (o : Open) (rest : List ℕ) (all : List Span) → Begun s o rest → Moves s rest s o rest all all

@@ -1,31 +1,19 @@
 -- How far a stream is scanned.
 use Rattle.std.specs.Prelude.{◌≡◌, ℕ, ◌-◌, ◌<◌, List, ◌++◌, length, drop, slice_index, Option, Some, None, Result, Ok, Err}
-use Rattle.bus_types.specs.declared.change.Change.{Change}
 use Rattle.bus_types.specs.declared.fault.NoMemory.{NoMemory}
 use Rattle.bus_types.specs.Window.{Span}
-use Rattle.event_codec.specs.Bytes.{changes_bytes}
+use Rattle.event_codec.specs.Items.{Since, Open, Front, front_of, since_of, open_in}
+use Rattle.event_codec.specs.Items.Front.{Unfinished, Refused}
+use Rattle.event_codec.specs.Streams.{Begun, Come, after_windows, windows_bytes}
 use Rattle.window_stream.specs.declared.scan.Scan.{Scan}
 use Rattle.window_stream.specs.declared.scan.Stop.{Stop}
 use Rattle.window_stream.specs.declared.scan.Stop.TheVariants as stops
 use Rattle.window_stream.specs.declared.scan.Step.{Step}
 use Rattle.window_stream.specs.declared.scan.Step.TheVariants as steps
-use Rattle.window_stream.specs.Head.{Since, Open, open_of, Front, front_of}
-use Rattle.window_stream.specs.Head.Front.{Unfinished, Refused}
-use Rattle.window_stream.specs.Item.{since_of, open_in}
-use Rattle.window_stream.specs.Stream.{Begins, Come, after_windows, windows_bytes}
 
 -- each element is a byte
 abbrev pub IsBytes : List ℕ → Type 0
 IsBytes bytes = (i : ℕ) → slice_index bytes i < 256
-
--- the bytes begin with whole events of a window, of which that much is known
-pub record Begun (s : Since) (o : Open) (rest : List ℕ) : Type 0 where
-  pub scn : ℕ
-  pub changes : List Change
-  pub part : List ℕ
-  pub parts : rest ≡ changes_bytes scn changes ++ part
-  pub begins : Begins s scn changes
-  pub known : o ≡ open_of scn changes
 
 -- so it is as long as the stream is not bad
 abbrev pub IsScanned : Option ℕ → Since → Open → List ℕ → Type 0

@@ -3,12 +3,9 @@
 #![tactic(auto)]
 
 mod decode;
-mod item;
-mod laws;
 mod scan;
 mod splitter;
 
-pub use laws::a_stream_is_read_in_one_way;
 pub use splitter::{SplitFault, Splitter};
 
 #[cfg(test)]

@@ -1,21 +1,13 @@
 ghost use Rattle.std.specs.Prelude.{◌≡◌, ◌<◌, List, IfOk, OnErr};
 ghost use Rattle.bus_types.specs.Window.{Span};
-ghost use Rattle.window_stream.specs.Item.{since_of, open_in, Shows};
-ghost use Rattle.window_stream.specs.Scan.{Begun, IsScan, front_at, unscanned, MovesOn, Advances, Reaches, AppendsSome};
+ghost use Rattle.event_codec.specs.Items.{since_of, open_in, Shows};
+ghost use Rattle.event_codec.specs.Streams.{Begun};
+ghost use Rattle.window_stream.specs.Scan.{IsScan, front_at, unscanned, MovesOn, Advances, Reaches, AppendsSome};
 
 use crate::decode::changes_of;
-use crate::item::{Events, Follows, Item, MARK_SIZE, front};
 use bus_types::{NoMemory, Window};
+use event_codec::{Events, Follows, Item, MARK_SIZE, item_front};
 use std::alloc::Global;
-
-impl Events {
-    // A window of which nothing has come.
-    pub(crate) const NONE: Events = Events {
-        scn: None,
-        count: 0,
-        size: 0,
-    };
-}
 
 // How far a stream is scanned.
 #[derive(Clone, Copy, Debug)]
@@ -95,7 +87,7 @@ fn advance<'a>(alloc: Global, scan: Scan<'a>, whole: &mut Vec<Window>) -> Result
     ensures { Advances result scan.entry whole.old.items whole.new.items }
 {
     let (_events, behind) = scan.rest.split_at(scan.events.size);
-    match front(scan.follows, scan.events, behind) {
+    match item_front(scan.follows, scan.events, behind) {
         Item::Unfinished => Ok(Step::At(Stop::Unfinished)),
         Item::Refused => Ok(Step::At(Stop::Refused)),
         Item::Event { scn, size } => Ok(Step::On(with_event(scan, scn, size))),

@@ -1,5 +1,5 @@
 use Rattle.std.proofs.Common.{◌≡◌, ◌++◌, drop}
-use Rattle.window_stream.specs.Stream.{windows_bytes}
+use Rattle.event_codec.specs.Streams.{windows_bytes}
 use Rattle.bus_top.proofs.reply.write.Given as goal
 
 abbrev pub invariant-loop-window : goal.invariant-loop-window

@@ -1,4 +1,4 @@
-use Rattle.window_stream.specs.Item.{since_of, open_in}
+use Rattle.event_codec.specs.Items.{since_of, open_in}
 use Rattle.window_stream.proofs.Windows.{moves_then, bytes_left}
 use Rattle.window_stream.proofs.scan.scan_items.Goals as goal
 

@@ -1,5 +1,5 @@
 use Rattle.std.proofs.Common.{arith}
-use Rattle.window_stream.specs.Item.{since_of}
+use Rattle.event_codec.specs.Items.{since_of}
 use Rattle.window_stream.proofs.Windows.{moves_none}
 use Rattle.window_stream.proofs.Scans.{event_moved}
 use Rattle.window_stream.proofs.scan.with_event.Goals as goal

@@ -1,6 +1,6 @@
 use Rattle.std.proofs.Common.{◌+◌, ◌-◌, ◌++◌, List, ℕ, length, refl, sym, ap, subst, ◌∙◌, arith}
 use Rattle.window_stream.specs.Stream.{Split}
-use Rattle.window_stream.specs.Item.{since_of, open_in}
+use Rattle.event_codec.specs.Items.{since_of, open_in}
 use Rattle.window_stream.specs.Scan.{Moves, front_of_stop}
 use Rattle.window_stream.proofs.Splits.{takes_all, finds_bad, place_fits}
 use Rattle.window_stream.proofs.splitter.Splitter.take_first.Goals as goal

@@ -1,7 +1,7 @@
 use Rattle.std.proofs.Common.{◌+◌, ◌-◌, ◌++◌, length, drop, sym, ap, subst, ◌∙◌, arith}
 use Rattle.std.proofs.lemmas.List.{length-append}
 use Rattle.window_stream.specs.Stream.{Split}
-use Rattle.window_stream.specs.Item.{since_of, open_in}
+use Rattle.event_codec.specs.Items.{since_of, open_in}
 use Rattle.window_stream.specs.Scan.{Moves, front_of_stop}
 use Rattle.window_stream.proofs.Splits.{takes_all, finds_bad, place_fits, left_is, scanned_more}
 use Rattle.window_stream.proofs.splitter.Splitter.take_more.Goals as goal

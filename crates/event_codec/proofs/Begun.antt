@@ -1,24 +1,25 @@
 -- A window that has begun, and the event or the mark that stands behind its events.
-use Rattle.std.proofs.Common.{◌≡◌, ℕ, ◌+◌, ◌<◌, ◌≤◌, true, List, [], ◌∷◌, ◌++◌, length, take, drop, Some, None, refl, sym, ap, ◌∙◌, append_assoc, arith}
+use Rattle.std.proofs.Common.{◌≡◌, ℕ, ◌+◌, ◌<◌, ◌≤◌, true, List, [], ◌∷◌, ◌++◌, length, take, drop, Some, None, refl, sym, ap, subst, ◌∙◌, append_assoc, arith}
 use Rattle.std.proofs.lemmas.Bool.{ltb-true, eqb-true}
 use Rattle.std.proofs.lemmas.List.{append-nil, take_at, drop_at, length-append, length-drop}
 use Rattle.bus_types.specs.declared.change.Key.{Key}
 use Rattle.bus_types.specs.declared.change.Key.TheVariants.{Long}
 use Rattle.bus_types.specs.declared.change.Change.{Change}
-use Rattle.bus_types.specs.declared.limits.TheConstants.{MAX_CHANGES, MAX_WINDOW}
+use Rattle.bus_types.specs.declared.limits.TheConstants.{MAX_SCN, MAX_CHANGES, MAX_WINDOW}
 use Rattle.bus_types.specs.Change.{IsChange, AreChanges, head_size, change_size, changes_size}
-use Rattle.event_codec.specs.Bytes.{Event, event_bytes, mark_bytes, changes_bytes, window_bytes}
+use Rattle.event_codec.specs.Bytes.{Event, IsEvent, event_bytes, mark_bytes, changes_bytes, window_bytes}
 use Rattle.event_codec.proofs.Numbers.{IsBytes, IsBytes-drop}
-use Rattle.event_codec.proofs.Events.{event_length}
-use Rattle.window_stream.specs.Head.{Since, Open, open_of, has_right_scn, front_of}
-use Rattle.window_stream.specs.Head.Front.{AnEvent, AMark}
-use Rattle.window_stream.specs.Stream.{Begins, Comes}
-use Rattle.window_stream.specs.Decode.{AreEvents}
-use Rattle.window_stream.specs.Scan.{Begun}
-use Rattle.window_stream.proofs.Fronts.{event_taken, mark_taken}
+use Rattle.event_codec.proofs.EventBytes.{event_length}
+use Rattle.event_codec.specs.Items.{Since, Open, open_of, has_right_scn, Front, front_of}
+use Rattle.event_codec.specs.Items.Front.{AnEvent, AMark}
+use Rattle.event_codec.specs.Streams.{Comes, Begins, Begun, Behind}
+use Rattle.event_codec.proofs.Fronts.{event_taken, mark_taken}
 
 abbrev pub event : ℕ → Change → Event
 event n c = record { scn = n; change = c }
+
+pub is_event : (n : ℕ) (c : Change) → 0 < n → n ≤ MAX_SCN → IsChange c → IsEvent (event n c)
+is_event n c positive bound is = record { positive = positive; scn = bound; source = is.source; key = is.key; payload = is.payload }
 
 -- ---- one more change
 
@@ -145,7 +146,7 @@ event_moves s o rest n c m bytes begun e =
 pub record MarkMoves (s : Since) (o : Open) (rest : List ℕ) (cs : List Change) (n p : ℕ) : Type 0 where
   pub comes : Comes s (record { scn = n; prev = p; changes = cs })
   pub parts : rest ≡ window_bytes (record { scn = n; prev = p; changes = cs }) ++ drop 17 (drop o.size rest)
-  pub events : AreEvents n cs (take o.size rest)
+  pub events : take o.size rest ≡ changes_bytes n cs
   pub long : o.size + 17 ≤ length rest
 
 pub mark_moves : (s : Since) (o : Open) (rest : List ℕ) (n p : ℕ) → IsBytes rest → (begun : Begun s o rest) → front_of s o (drop o.size rest) ≡ AMark n p → MarkMoves s o rest begun.changes n p
@@ -167,7 +168,7 @@ mark_moves s o rest n p bytes begun e =
           begun.parts
           ∙ (λ i. scn.1 i ++ (sym (behind_is s o rest begun) ∙ taken.parts) i)
           ∙ sym (append_assoc (changes_bytes n cs) (mark_bytes n p) (drop 17 behind));
-      events = record { positive = λ _. omega (arith, is.order); scn = is.bound; changes = begun.begins.changes; spelled = events_are s o rest begun ∙ scn.1 };
+      events = events_are s o rest begun ∙ scn.1;
       long = omega (arith, taken.long, length-drop o.size rest, fits s o rest begun);
     }
 
@@ -180,4 +181,15 @@ begun_none s rest = record {
   parts = refl;
   begins = record { above = λ h. absurd (omega (arith, h)); scn = omega arith; count = omega arith; size = omega arith; changes = tt };
   known = refl;
+}
+
+-- where a reading stops, as the bytes behind the windows say it
+abbrev pub behind_of : (s t : Since) (o : Open) (rest : List ℕ) (f : Front) → s ≡ t → (begun : Begun s o rest) → front_of s o (drop o.size rest) ≡ f → Behind t rest f
+behind_of s t o rest f same begun stops = record {
+  scn = begun.scn;
+  changes = begun.changes;
+  part = begun.part;
+  bytes = begun.parts;
+  begins = subst (λ (q : Since). Begins q begun.scn begun.changes) same begun.begins;
+  stops = sym (λ i. front_of (same i) (begun.known i) (behind_is s o rest begun i)) ∙ stops;
 }

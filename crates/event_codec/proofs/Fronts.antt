@@ -12,10 +12,10 @@ use Rattle.bus_types.specs.Change.{change_size, payload_size}
 use Rattle.event_codec.specs.Bytes.{Event, IsEvent, put_bytes, event_bytes, mark_bytes}
 use Rattle.event_codec.specs.Reading.{number_at}
 use Rattle.event_codec.proofs.Numbers.{IsBytes, spells_2, spells_4, spells_8}
-use Rattle.window_stream.specs.declared.item.Item.TheVariants as items
-use Rattle.window_stream.specs.Head.{Since, Open, has_right_scn, has_right_prev, event_stands, mark_stands, Front, event_front, mark_front, front_of}
-use Rattle.window_stream.specs.Head.Front.{Unfinished, Refused, AnEvent, AMark}
-use Rattle.window_stream.specs.Item.{Shows, IsEventNumbers}
+use Rattle.event_codec.specs.declared.item.Item.TheVariants as items
+use Rattle.event_codec.specs.Items.{Since, Open, has_right_scn, has_right_prev, event_stands, mark_stands, Front, event_front, mark_front, front_of}
+use Rattle.event_codec.specs.Items.Front.{Unfinished, Refused, AnEvent, AMark}
+use Rattle.event_codec.specs.Items.{Shows, IsEventNumbers}
 
 -- ---- choices
 

@@ -7,14 +7,13 @@ use Rattle.bus_types.specs.declared.limits.TheConstants.{MAX_SCN}
 use Rattle.bus_types.specs.Change.{AreChanges, change_size}
 use Rattle.bus_types.specs.Window.{Span}
 use Rattle.event_codec.specs.Bytes.{event_bytes, mark_bytes, changes_bytes, window_bytes}
-use Rattle.event_codec.proofs.Events.{one_event, no_event_is_a_mark}
+use Rattle.event_codec.proofs.EventBytes.{one_event, no_event_is_a_mark}
 use Rattle.event_codec.proofs.Windows.{one_window}
-use Rattle.window_stream.specs.Head.{Since, open_of, has_right_scn, Front, front_of}
-use Rattle.window_stream.specs.Head.Front.{Unfinished, Refused, AnEvent, AMark}
-use Rattle.window_stream.specs.Stream.{Comes, Come, after_window, after_windows, windows_bytes, Begins, Behind, IsReading}
-use Rattle.window_stream.proofs.Fronts.{event_seen, mark_seen}
-use Rattle.window_stream.proofs.Begun.{event, open_count, open_size, changes_size-append}
-use Rattle.window_stream.proofs.Changes.{is_event}
+use Rattle.event_codec.specs.Items.{Since, open_of, has_right_scn, Front, front_of}
+use Rattle.event_codec.specs.Items.Front.{Unfinished, Refused, AnEvent, AMark}
+use Rattle.event_codec.specs.Streams.{Comes, Come, after_window, after_windows, windows_bytes, Begins, Behind, IsReading}
+use Rattle.event_codec.proofs.Fronts.{event_seen, mark_seen}
+use Rattle.event_codec.proofs.Begun.{event, is_event, open_count, open_size, changes_size-append}
 
 -- of a whole window, what stands behind the first changes: others, and the mark
 record Left (n k p : ℕ) (cs ds : List Change) (part behind : List ℕ) : Type 0 where

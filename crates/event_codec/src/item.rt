@@ -1,51 +1,51 @@
 ghost use Rattle.std.specs.Prelude.{◌≡◌, ◌≤◌, length, take, drop, MatchOption, ◌<◌};
 ghost use Rattle.std.specs.Int.{w32, w64, from_be_bytes};
-ghost use Rattle.window_stream.specs.Head.{has_right_scn, has_right_prev, event_stands, mark_stands, event_front, mark_front, front_of};
-ghost use Rattle.window_stream.specs.Item.{since_of, open_in, Shows, has_room, is_in_range, IsEventNumbers, IsMarkNumbers};
+ghost use Rattle.event_codec.specs.Items.{has_right_scn, has_right_prev, event_stands, mark_stands, event_front, mark_front, front_of, since_of, open_in, Shows, has_room, is_in_range, IsEventNumbers, IsMarkNumbers};
 ghost use Rattle.bus_types.specs.declared.limits.TheConstants.{MAX_WINDOW};
 
+use crate::head::{DELETE, HEAD_SIZE, PUT};
+use crate::mark::{MARK, MARK_SIZE};
 use bus_types::{MAX_CHANGES, MAX_PAYLOAD, MAX_SCN, MAX_WINDOW};
 
-// The bytes of a mark.
-pub(crate) const MARK_SIZE: usize = 17;
-
-// The bytes of an event before its payload.
-const HEAD_SIZE: usize = 23;
-
-// The kind of a put.
-const PUT: u8 = 1;
-
-// The kind of a delete.
-const DELETE: u8 = 2;
-
-// The kind of a mark.
-const MARK: u8 = 3;
-
-// What the next window follows: the SCN of the mark before it, or the floor where no mark has come.
-#[derive(Clone, Copy, Debug)]
-pub(crate) struct Follows {
+/// What the next window of a stream follows.
+#[derive(Clone, Copy, Debug, PartialEq, Eq)]
+pub struct Follows {
+    /// The SCN of the mark before it, or where no mark has come the SCN above which the stream begins.
     pub floor: u64,
+    /// Whether a mark has come.
     pub started: bool,
 }
 
-// The whole events of the window that has begun: the SCN of the first, where there is one, their count and their bytes.
-#[derive(Clone, Copy, Debug)]
-pub(crate) struct Events {
+/// The whole events of the window that has begun.
+#[derive(Clone, Copy, Debug, PartialEq, Eq)]
+pub struct Events {
+    /// The SCN of the first event, where there is one.
     pub scn: Option<u64>,
+    /// How many they are, at most 4,096.
     pub count: usize,
+    /// The bytes that they take, at most 1,048,576.
     pub size: usize,
 }
 
-// What stands at the front of bytes in a stream of windows.
-#[derive(Clone, Copy, Debug)]
-pub(crate) enum Item {
-    // An item that isn't whole yet, and whose head can stand as far as it has come.
+impl Events {
+    /// A window of which nothing has come.
+    pub const NONE: Events = Events {
+        scn: None,
+        count: 0,
+        size: 0,
+    };
+}
+
+/// What stands at the front of bytes in a stream of windows.
+#[derive(Clone, Copy, Debug, PartialEq, Eq)]
+pub enum Item {
+    /// An item that isn't whole yet, and whose head can stand as far as it has come.
     Unfinished,
-    // A complete head that can't stand.
+    /// A complete head that can't stand.
     Refused,
-    // An event of this many bytes.
+    /// A whole event that can stand: the SCN of its window, and its bytes with its payload.
     Event { scn: u64, size: usize },
-    // A mark.
+    /// A whole mark that can stand: the SCN of its window, and the SCN of the window before it or 0. It takes 17 bytes.
     Mark { scn: u64, prev: u64 },
 }
 
@@ -159,9 +159,12 @@ fn mark_front(follows: Follows, events: Events, bytes: &[u8]) -> Item
     Item::Mark { scn, prev }
 }
 
-// What stands at the front of bytes, behind these whole events of a window.
-#[tactic(auto, unfolding(crate::specs::Head::front_of))]
-pub(crate) fn front(follows: Follows, events: Events, bytes: &[u8]) -> Item
+/// What stands at the front of bytes, behind whole events of a window. An event can stand where its SCN is that of the
+/// first event, or above the window before where it is the first one, and where the window has room for it and for its
+/// mark; a mark can stand where its SCN is right in the same way, and the SCN before it is that of the mark before, or at
+/// most the floor in the first one.
+#[tactic(auto, unfolding(crate::specs::Items::front_of))]
+pub fn item_front(follows: Follows, events: Events, bytes: &[u8]) -> Item
     requires { events.size ≤ MAX_WINDOW }
     ensures { Shows result (front_of (since_of follows) (open_in events) bytes.now) }
 {

@@ -1,7 +1,7 @@
 use Rattle.std.proofs.Common.{sym, ◌∙◌}
-use Rattle.window_stream.specs.Item.{since_of, open_in}
-use Rattle.window_stream.proofs.Fronts.{event_found}
-use Rattle.window_stream.proofs.item.event_front.Goals as goal
+use Rattle.event_codec.specs.Items.{since_of, open_in}
+use Rattle.event_codec.proofs.Fronts.{event_found}
+use Rattle.event_codec.proofs.item.event_front.Goals as goal
 
 pub returns : goal.returns
 returns c =

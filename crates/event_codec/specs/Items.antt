@@ -1,10 +1,14 @@
 -- The item that stands at the front of bytes in a stream of windows, and when its head can't stand there.
-use Rattle.std.specs.Prelude.{ℕ, ◌+◌, Bool, if◌then◌else◌, ◌==◌, ◌||◌, ◌&&◌, nat_lt, nat_le, List, [], ◌∷◌, length, take, drop, Option, Some, None}
+use Rattle.std.specs.Prelude.{◌≡◌, ℕ, ◌+◌, ◌≤◌, Bool, if◌then◌else◌, ◌==◌, ◌||◌, ◌&&◌, nat_lt, nat_le, List, [], ◌∷◌, length, take, drop, Option, Some, None}
 use Rattle.std.specs.Int.{w16, w32, w64, from_be_bytes}
 use Rattle.bus_types.specs.declared.change.Key.TheVariants.{Long}
 use Rattle.bus_types.specs.declared.change.Change.{Change}
 use Rattle.bus_types.specs.declared.limits.TheConstants.{MAX_SCN, MAX_PAYLOAD, MAX_CHANGES, MAX_WINDOW}
 use Rattle.bus_types.specs.Change.{changes_size}
+use Rattle.event_codec.specs.declared.item.Follows.{Follows}
+use Rattle.event_codec.specs.declared.item.Events.{Events}
+use Rattle.event_codec.specs.declared.item.Item.{Item}
+use Rattle.event_codec.specs.declared.item.Item.TheVariants as items
 
 -- what the next window follows: the SCN of the mark before it, or the floor where no mark has come
 pub record Since : Type 0 where
@@ -76,3 +80,39 @@ front_of s o (kind ∷ rest) =
     if kind == 3 then mark_front s o rest
     else if kind == 1 || kind == 2 then event_front s o kind rest
     else Refused
+
+-- ---- the code's words
+
+abbrev pub since_of : Follows → Since
+since_of f = record { floor = f.floor; started = f.started }
+
+abbrev pub open_in : Events → Open
+open_in e = record { scn = e.scn; count = e.count; size = e.size }
+
+-- the front is of that kind
+abbrev pub Shows : Item → Front → Type 0
+Shows items.Unfinished front = front ≡ Unfinished
+Shows items.Refused front = front ≡ Refused
+Shows (items.Event scn size) front = (c : Change) × (front ≡ AnEvent scn c size)
+Shows (items.Mark scn prev) front = front ≡ AMark scn prev
+
+-- the window has room for an event with so long a payload, and for its mark
+abbrev pub has_room : Open → ℕ → Bool
+has_room o len = nat_lt o.count MAX_CHANGES && nat_le (o.size + 23 + len + 17) MAX_WINDOW
+
+-- the SCN and the length of an event are in their ranges
+abbrev pub is_in_range : ℕ → ℕ → ℕ → Bool
+is_in_range kind scn len = nat_lt 0 scn && nat_le scn MAX_SCN && nat_le len MAX_PAYLOAD && (kind == 1 || len == 0)
+
+-- the SCN, the length and the bytes from the payload on, of an event behind its kind
+pub record IsEventNumbers (bytes : List ℕ) (number size : ℕ) (behind : List ℕ) : Type 0 where
+  pub long : 22 ≤ length bytes
+  pub scn : number ≡ from_be_bytes w64 (take 8 (drop 2 bytes))
+  pub len : size ≡ from_be_bytes w32 (take 4 (drop 18 bytes))
+  pub payload : length behind + 22 ≡ length bytes
+
+-- the SCN and the SCN before it, of a mark behind its kind
+pub record IsMarkNumbers (bytes : List ℕ) (number before : ℕ) : Type 0 where
+  pub long : 16 ≤ length bytes
+  pub scn : number ≡ from_be_bytes w64 (take 8 bytes)
+  pub prev : before ≡ from_be_bytes w64 (take 8 (drop 8 bytes))

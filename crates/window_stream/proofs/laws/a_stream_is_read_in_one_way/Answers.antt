@@ -1,5 +1,0 @@
-use Rattle.window_stream.proofs.Readings.{one_reading, one_place}
-use Rattle.window_stream.proofs.laws.a_stream_is_read_in_one_way.Goals as goal
-
-pub returns : goal.returns
-returns c = record { windows = one_reading; place = one_place }
