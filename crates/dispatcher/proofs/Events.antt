@@ -1,7 +1,7 @@
 -- The loop over the events of a run.
-use Rattle.std.proofs.Common.{◌≡◌, ℕ, suc, ◌+◌, ◌-◌, ◌<◌, ◌≤◌, ◌⊎◌, inl, inr, List, [], ◌∷◌, ◌++◌, map, length, get_or, drop, refl, sym, ap, subst, ◌∙◌, append_assoc, arith}
+use Rattle.std.proofs.Common.{◌≡◌, ℕ, ◌-◌, ◌<◌, List, [], ◌∷◌, ◌++◌, map, length, drop, refl, sym, ap, subst, ◌∙◌, append_assoc, arith}
 use Rattle.std.specs.Prelude.{Bool, Option, Result, Ok, Err}
-use Rattle.std.proofs.lemmas.List.{append-nil, map-append, length-append, length-drop}
+use Rattle.std.proofs.lemmas.List.{append-nil, map-append}
 use Rattle.bus_types.specs.declared.change.Change.{Change}
 use Rattle.event_codec.specs.declared.event.EventView.{EventView}
 use Rattle.event_codec.specs.Bytes.{Event, IsEvent, event_bytes, changes_bytes, StandsAt}
@@ -10,13 +10,14 @@ use Rattle.event_codec.specs.declared.reply.Shape.TheVariants as shapes
 use Rattle.event_codec.specs.Frames.{Run, Closing, closing_bytes}
 use Rattle.event_codec.specs.Frames.Run.{Changes}
 use Rattle.event_codec.specs.View.{event_of, IsView}
+use Rattle.event_codec.proofs.Begun.{event}
 use Rattle.event_codec.proofs.Places.{stands_parts}
 use Rattle.dispatcher.specs.declared.consumer.Refused.{Refused}
 use Rattle.dispatcher.specs.Callbacks.{Callback, Call, taken, with_calls, StopsAt, run_calls, IsRun, Describes}
 use Rattle.dispatcher.specs.Callbacks.Callback.{OnStart, OnEvent, OnEnd}
 use Rattle.dispatcher.specs.Telling.{Makes, MakesUpTo, AreEvents, HaveEvents, EndsWith, HaveClosing}
 use Rattle.dispatcher.proofs.Lists.{made_none, made_both, makes_both, stops_later, stops_there}
-use Rattle.dispatcher.proofs.Standing.{event, is_first, none_left, room_at, event_some, closing_frame}
+use Rattle.dispatcher.proofs.Standing.{is_first, none_left, room_at, event_some, closing_frame}
 
 abbrev pub event_call : ℕ → Change → Callback
 event_call scn c = OnEvent scn (event scn c)

@@ -5,9 +5,8 @@ use Rattle.std.specs.Result.{result_or}
 use Rattle.std.proofs.lemmas.List.{append-nil, map-append}
 use Rattle.dispatcher.specs.declared.consumer.Refusal.{Refusal}
 use Rattle.dispatcher.specs.declared.consumer.Refused.{Refused}
-use Rattle.dispatcher.specs.Callbacks.{Callback, number_of, Call, taken, refusal, with_calls, StopsAt, Dispatched}
-use Rattle.dispatcher.specs.Callbacks.Callback.{OnRollback}
-use Rattle.dispatcher.specs.Telling.{Makes, MakesUpTo}
+use Rattle.dispatcher.specs.Callbacks.{Callback, number_of, Call, taken, refusal, with_calls, StopsAt}
+use Rattle.dispatcher.specs.Telling.{Makes}
 
 with_none : (calls : Option (List Call)) → with_calls [] calls ≡ calls
 with_none None = refl
@@ -49,8 +48,8 @@ stops_later n one other behind x y z first second = record {
       ∙ ap (with_calls (map taken second.done ++ refusal second.stop ∷ behind)) first
       ∙ with_both (map taken one) (map taken second.done ++ refusal second.stop ∷ behind) x
       ∙ ap (λ (all : List Call). with_calls all x) (
-        sym (append_assoc (map taken one) (map taken second.done) (refusal second.stop ∷ behind))
-        ∙ ap (λ (all : List Call). all ++ refusal second.stop ∷ behind) (sym (map-append taken one second.done)));
+      sym (append_assoc (map taken one) (map taken second.done) (refusal second.stop ∷ behind))
+      ∙ ap (λ (all : List Call). all ++ refusal second.stop ∷ behind) (sym (map-append taken one second.done)));
 }
 
 -- a list stopped, and what would have followed wasn't called

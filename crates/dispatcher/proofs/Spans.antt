@@ -1,5 +1,5 @@
 -- The loop over windows.
-use Rattle.std.proofs.Common.{◌≡◌, ℕ, suc, ◌+◌, ◌-◌, ◌<◌, ◌≤◌, List, [], ◌∷◌, ◌++◌, map, length, drop, refl, sym, ap, subst, ◌∙◌, append_assoc, arith}
+use Rattle.std.proofs.Common.{◌≡◌, ℕ, ◌+◌, ◌-◌, ◌<◌, ◌≤◌, List, [], ◌∷◌, ◌++◌, map, length, drop, refl, sym, ap, subst, ◌∙◌, append_assoc, arith}
 use Rattle.std.specs.Prelude.{Bool, Option, Result, Ok, Err, flat_map}
 use Rattle.std.specs.List.{AllByRecursion}
 use Rattle.std.proofs.lemmas.List.{append-nil, length-append, length-drop, drop_all}
@@ -9,16 +9,18 @@ use Rattle.bus_types.specs.Window.{Span, IsSpan}
 use Rattle.event_codec.specs.declared.reply.Shape.{Shape}
 use Rattle.event_codec.specs.declared.reply.Shape.TheVariants as shapes
 use Rattle.event_codec.specs.Bytes.{changes_bytes, mark_bytes, window_bytes}
+use Rattle.event_codec.specs.Streams.{windows_bytes}
 use Rattle.event_codec.specs.Frames.{Run, Closing, closing_bytes}
 use Rattle.event_codec.specs.Frames.Run.{Rows, Changes}
-use Rattle.event_codec.proofs.Events.{one_event}
+use Rattle.event_codec.proofs.Begun.{event}
+use Rattle.event_codec.proofs.EventBytes.{one_event}
 use Rattle.event_codec.proofs.Frames.{one_closing}
 use Rattle.event_codec.proofs.Windows.{window_length, one_window}
 use Rattle.dispatcher.specs.declared.consumer.Refused.{Refused}
 use Rattle.dispatcher.specs.Callbacks.{Callback, Call, taken, with_calls, StopsAt, run_calls, window_calls, AreWindows, IsRun, Describes}
-use Rattle.dispatcher.specs.Telling.{Makes, MakesUpTo, AreEvents, HaveEvents, AreWindow, HaveWindow, AreAll, HaveWindows}
-use Rattle.dispatcher.proofs.Lists.{made_none, made_both, makes_both, stops_later, stops_there}
-use Rattle.dispatcher.proofs.Standing.{event, no_event, first_event, others_are, window_events, behind_mark, room_at}
+use Rattle.dispatcher.specs.Telling.{MakesUpTo, AreEvents, HaveEvents, AreWindow, HaveWindow, AreAll}
+use Rattle.dispatcher.proofs.Lists.{made_none, made_both, stops_later, stops_there}
+use Rattle.dispatcher.proofs.Standing.{no_event, first_event, others_are, window_events, behind_mark, room_at}
 use Rattle.dispatcher.proofs.Events.{run_events}
 
 -- ---- one window
@@ -63,8 +65,8 @@ pub record IsNext (left : List Span) (here : List ℕ) : Type 0 where
   pub window : Span
   pub others : List Span
   pub all : left ≡ window ∷ others
-  pub are : AreWindow window here (flat_map window_bytes others)
-  pub behind : AreAll others (flat_map window_bytes others)
+  pub are : AreWindow window here (windows_bytes others)
+  pub behind : AreAll others (windows_bytes others)
 
 pub is_next : (left : List Span) (here : List ℕ) → 0 < length here → AreAll left here → IsNext left here
 is_next [] here some are = absurd (omega (arith, some, ap length are.spelled))
@@ -80,14 +82,14 @@ pub here_some : (bytes : List ℕ) (place : ℕ) → place < length bytes → 0 
 here_some bytes place lt = omega (arith, length-drop place bytes)
 
 pub have_window : (windows : List Span) (here : List ℕ) (x y : Option (List Call)) → 0 < length here → WindowsTold windows here x y → HaveWindow here
-have_window windows here x y some told = let n = is_next told.left here some told.are in (n.window, flat_map window_bytes n.others, n.are)
+have_window windows here x y some told = let n = is_next told.left here some told.are in (n.window, windows_bytes n.others, n.are)
 
 -- one more window was taken
 pub windows_more : (windows : List Span) (bytes here : List ℕ) (next : ℕ) (x y z : Option (List Call)) → 0 < length here
     → ((w : Span) (rest : List ℕ) → AreWindow w here rest → MakesUpTo bytes rest (Ok next) (window_calls w) y z) → WindowsTold windows here x y → WindowsTold windows (drop next bytes) x z
 windows_more windows bytes here next x y z some makes told =
     let n = is_next told.left here some told.are in
-    let made = makes n.window (flat_map window_bytes n.others) n.are in
+    let made = makes n.window (windows_bytes n.others) n.are in
     record {
       done = told.done ++ n.window ∷ [];
       left = n.others;
@@ -96,8 +98,8 @@ windows_more windows bytes here next x y z some makes told =
       calls =
           made_both (flat_map window_calls told.done) (window_calls n.window) x y z told.calls made.makes
           ∙ ap (λ (l : List Callback). with_calls (map taken l) x) (
-            ap (λ (l : List Callback). flat_map window_calls told.done ++ l) (sym (append-nil (window_calls n.window)))
-            ∙ sym (flat_map-append window_calls told.done (n.window ∷ [])));
+          ap (λ (l : List Callback). flat_map window_calls told.done ++ l) (sym (append-nil (window_calls n.window)))
+          ∙ sym (flat_map-append window_calls told.done (n.window ∷ [])));
     }
 
 -- a window was refused
@@ -105,17 +107,17 @@ pub windows_stop : (windows : List Span) (bytes here : List ℕ) (e : Refused) (
     → ((w : Span) (rest : List ℕ) → AreWindow w here rest → MakesUpTo bytes rest (Err e) (window_calls w) y z) → WindowsTold windows here x y → StopsAt e.scn (flat_map window_calls windows) [] x z
 windows_stop windows bytes here e x y z some makes told =
     let n = is_next told.left here some told.are in
-    let made = makes n.window (flat_map window_bytes n.others) n.are in
+    let made = makes n.window (windows_bytes n.others) n.are in
     let parts : windows ≡ told.done ++ n.window ∷ n.others = told.all ∙ ap (λ (l : List Span). told.done ++ l) n.all in
     let whole : flat_map window_calls told.done ++ flat_map window_calls (n.window ∷ n.others) ≡ flat_map window_calls windows =
     sym (flat_map-append window_calls told.done (n.window ∷ n.others)) ∙ ap (flat_map window_calls) (sym parts) in
     subst (λ (l : List Callback). StopsAt e.scn l [] x z) whole
     (stops_later e.scn (flat_map window_calls told.done) (flat_map window_calls (n.window ∷ n.others)) [] x y z told.calls
-      (stops_there e.scn (window_calls n.window) (flat_map window_calls n.others) [] y z made.makes))
+    (stops_there e.scn (window_calls n.window) (flat_map window_calls n.others) [] y z made.makes))
 
 none_left : (left : List Span) (here : List ℕ) → here ≡ [] → AreAll left here → left ≡ []
 none_left [] here none are = refl
-none_left (w ∷ ws) here none are = absurd (omega (arith, ap length (sym none ∙ are.spelled), length-append (window_bytes w) (flat_map window_bytes ws), window_length w))
+none_left (w ∷ ws) here none are = absurd (omega (arith, ap length (sym none ∙ are.spelled), length-append (window_bytes w) (windows_bytes ws), window_length w))
 
 -- no window is left
 pub windows_all : (windows : List Span) (bytes : List ℕ) (place : ℕ) (x y : Option (List Call)) → length bytes ≤ place → WindowsTold windows (drop place bytes) x y → y ≡ with_calls (map taken (flat_map window_calls windows)) x
@@ -129,18 +131,18 @@ pub less_behind : (windows : List Span) (bytes : List ℕ) (place next : ℕ) (x
     → ((w : Span) (rest : List ℕ) → AreWindow w (drop place bytes) rest → MakesUpTo bytes rest (Ok next) (window_calls w) y z) → WindowsTold windows (drop place bytes) x y → length bytes - next < length bytes - place
 less_behind windows bytes place next x y z lt makes told =
     let n = is_next told.left (drop place bytes) (here_some bytes place lt) told.are in
-    let rest = flat_map window_bytes n.others in
+    let rest = windows_bytes n.others in
     let made = makes n.window rest n.are in
     omega (arith, ap length n.are.parts, length-append (window_bytes n.window) rest, window_length n.window, ap length made.place, length-drop place bytes, length-drop next bytes)
 
 -- ---- one reading
 
-one_reading : (ws vs : List Span) → AllByRecursion IsSpan ws → AllByRecursion IsSpan vs → flat_map window_bytes ws ≡ flat_map window_bytes vs → ws ≡ vs
+one_reading : (ws vs : List Span) → AllByRecursion IsSpan ws → AllByRecursion IsSpan vs → windows_bytes ws ≡ windows_bytes vs → ws ≡ vs
 one_reading [] [] a b same = refl
-one_reading [] (v ∷ vs) a b same = absurd (omega (arith, ap length same, length-append (window_bytes v) (flat_map window_bytes vs), window_length v))
-one_reading (w ∷ ws) [] a b same = absurd (omega (arith, ap length same, length-append (window_bytes w) (flat_map window_bytes ws), window_length w))
+one_reading [] (v ∷ vs) a b same = absurd (omega (arith, ap length same, length-append (window_bytes v) (windows_bytes vs), window_length v))
+one_reading (w ∷ ws) [] a b same = absurd (omega (arith, ap length same, length-append (window_bytes w) (windows_bytes ws), window_length w))
 one_reading (w ∷ ws) (v ∷ vs) a b same =
-    let one = one_window w v (flat_map window_bytes ws) (flat_map window_bytes vs) a.0 b.0 same in
+    let one = one_window w v (windows_bytes ws) (windows_bytes vs) a.0 b.0 same in
     let others = one_reading ws vs a.1 b.1 one.1 in
     (λ i. one.0 i ∷ others i)
 

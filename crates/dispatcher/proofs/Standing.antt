@@ -1,29 +1,22 @@
 -- What stands at a place of a reply.
-use Rattle.std.proofs.Common.{◌≡◌, ℕ, suc, ◌+◌, ◌-◌, ◌<◌, ◌≤◌, ◌⊎◌, inl, inr, List, [], ◌∷◌, ◌++◌, length, get_or, take, drop, Option, Some, None, Bor, refl, sym, ap, subst, ◌∙◌, lit≤, append_assoc, arith}
+use Rattle.std.proofs.Common.{◌≡◌, ℕ, suc, ◌+◌, ◌-◌, ◌<◌, ◌≤◌, inl, inr, List, [], ◌∷◌, ◌++◌, length, get_or, drop, Option, Some, None, Bor, refl, sym, ap, subst, ◌∙◌, lit≤, append_assoc, arith}
 use Rattle.std.specs.Prelude.{IfSome, IfNone, IsSome, MatchOption, cond}
 use Rattle.std.specs.Array.{IsWholeChunk}
 use Rattle.std.specs.Int.{w64, from_be_bytes, to_be_bytes}
-use Rattle.std.proofs.lemmas.List.{length-append, length-drop, drop_at, drop-drop, append-nil}
+use Rattle.std.proofs.lemmas.List.{length-append, length-drop, drop_at, drop-drop}
 use Rattle.std.proofs.lemmas.Nat.{from_be_bytes-to_be_bytes_8}
 use Rattle.bus_types.specs.declared.change.Change.{Change}
-use Rattle.bus_types.specs.declared.limits.TheConstants.{MAX_SCN}
-use Rattle.bus_types.specs.Change.{IsChange, AreChanges}
 use Rattle.bus_types.specs.Window.{Span, IsSpan}
 use Rattle.event_codec.specs.declared.event.EventView.{EventView}
-use Rattle.event_codec.specs.Bytes.{Event, IsEvent, event_bytes, changes_bytes, IsMark, mark_bytes, mark_size, window_bytes, StandsAt}
+use Rattle.event_codec.specs.Bytes.{Event, IsEvent, event_bytes, changes_bytes, IsMark, mark_bytes, mark_size, StandsAt}
 use Rattle.event_codec.specs.View.{event_of, IsView}
-use Rattle.event_codec.specs.Frames.{Run, run_kind, Closing, IsClosing, closing_bytes}
+use Rattle.event_codec.specs.Frames.{Run, run_kind, Closing}
 use Rattle.event_codec.specs.Frames.Run.{Rows, Changes}
-use Rattle.event_codec.proofs.Events.{one_event, event_first}
+use Rattle.event_codec.proofs.Begun.{event, is_event}
+use Rattle.event_codec.proofs.EventBytes.{one_event, event_first}
 use Rattle.event_codec.proofs.Marks.{one_mark}
 use Rattle.event_codec.proofs.Places.{stands_parts, stands_from_parts}
-use Rattle.dispatcher.specs.Telling.{AreEvents, HaveEvents, AreWindow, EndsWith}
-
-abbrev pub event : ℕ → Change → Event
-event scn c = record { scn = scn; change = c }
-
-pub is_event : (scn : ℕ) (c : Change) → 0 < scn → scn ≤ MAX_SCN → IsChange c → IsEvent (event scn c)
-is_event scn c positive bound is = record { positive = positive; scn = bound; source = is.source; key = is.key; payload = is.payload }
+use Rattle.dispatcher.specs.Telling.{AreEvents, AreWindow, EndsWith}
 
 -- no event stands where a frame does
 pub no_event : (e : Event) (rest frame : List ℕ) → 3 ≤ get_or frame 0 0 → frame ≡ event_bytes e ++ rest → ⊥

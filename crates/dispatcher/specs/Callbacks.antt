@@ -10,7 +10,8 @@ use Rattle.event_codec.specs.declared.answer.Answer.{Answer}
 use Rattle.event_codec.specs.declared.answer.Answer.TheVariants.{NotFound, Empty, TooSmall, Behind, LogGone, StartDelta, StartSnapshot, Target}
 use Rattle.event_codec.specs.declared.reply.Shape.{Shape}
 use Rattle.event_codec.specs.declared.reply.Shape.TheVariants as shapes
-use Rattle.event_codec.specs.Bytes.{Event, changes_bytes, window_bytes}
+use Rattle.event_codec.specs.Bytes.{Event, changes_bytes}
+use Rattle.event_codec.specs.Streams.{windows_bytes}
 use Rattle.event_codec.specs.Frames.{Run, closing_bytes, IsAnswer, answer_bytes}
 use Rattle.event_codec.specs.Frames.Run.{Rows, Changes}
 use Rattle.dispatcher.specs.declared.consumer.Refused.{Refused}
@@ -72,7 +73,7 @@ answer_calls (LogGone scn) = []
 pub record AreWindows (number end : ℕ) (bytes : List ℕ) (callbacks : List Callback) : Type 0 where
   pub windows : List Span
   pub within : AllByRecursion IsSpan windows
-  pub spelled : bytes ≡ flat_map window_bytes windows
+  pub spelled : bytes ≡ windows_bytes windows
   pub count : number ≡ length windows
   pub last : end ≡ end_of windows
   pub told : callbacks ≡ flat_map window_calls windows

@@ -1,11 +1,12 @@
 -- What stands at a place of a reply, and the calls that a part of it makes.
-use Rattle.std.specs.Prelude.{◌≡◌, ℕ, ◌<◌, ◌≤◌, List, [], ◌++◌, length, drop, map, flat_map, slice_index, Option, Result, Ok, Err, IfOk}
+use Rattle.std.specs.Prelude.{◌≡◌, ℕ, ◌<◌, ◌≤◌, List, [], ◌++◌, length, drop, map, slice_index, Option, Result, Ok, Err, IfOk}
 use Rattle.std.specs.List.{AllByRecursion}
 use Rattle.bus_types.specs.declared.change.Change.{Change}
 use Rattle.bus_types.specs.declared.limits.TheConstants.{MAX_SCN}
 use Rattle.bus_types.specs.Change.{AreChanges}
 use Rattle.bus_types.specs.Window.{Span, IsSpan}
 use Rattle.event_codec.specs.Bytes.{changes_bytes, window_bytes}
+use Rattle.event_codec.specs.Streams.{windows_bytes}
 use Rattle.event_codec.specs.Frames.{Closing, IsClosing, closing_bytes}
 use Rattle.dispatcher.specs.declared.consumer.Refused.{Refused}
 use Rattle.dispatcher.specs.Callbacks.{Callback, Call, taken, with_calls, StopsAt}
@@ -42,7 +43,7 @@ HaveWindow bytes = (window : Span) × (rest : List ℕ) × AreWindow window byte
 -- bytes are windows and nothing else
 pub record AreAll (windows : List Span) (bytes : List ℕ) : Type 0 where
   pub within : AllByRecursion IsSpan windows
-  pub spelled : bytes ≡ flat_map window_bytes windows
+  pub spelled : bytes ≡ windows_bytes windows
 
 abbrev pub HaveWindows : List ℕ → Type 0
 HaveWindows bytes = (windows : List Span) × AreAll windows bytes

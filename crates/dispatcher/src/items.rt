@@ -5,9 +5,6 @@ ghost use Rattle.dispatcher.specs.Telling.{AreWindow, HaveWindow, EndsWith, Have
 
 use event_codec::{EventView, mark_at};
 
-// The bytes of a mark.
-pub(crate) const MARK_SIZE: usize = 17;
-
 // The SCN of the window that begins at a place. A window without events begins with its mark.
 pub(crate) fn window_scn(bytes: &[u8], place: usize) -> u64
     requires { HaveWindow (drop place bytes.now) }

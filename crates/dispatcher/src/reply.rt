@@ -6,9 +6,9 @@ ghost use Rattle.dispatcher.specs.Callbacks.{Callback, run_calls, window_calls, 
 ghost use Rattle.dispatcher.specs.Telling.{Makes, MakesUpTo, AreEvents, HaveEvents, AreWindow, HaveWindow, AreAll, HaveWindows};
 
 use crate::consumer::{Consumer, Refused};
-use crate::items::{MARK_SIZE, closing_scn, window_scn};
+use crate::items::{closing_scn, window_scn};
 use crate::run::run;
-use event_codec::{Answer, Shape};
+use event_codec::{Answer, MARK_SIZE, Shape};
 
 // Tells of the window at a place, and answers the place behind it.
 fn window<C: Consumer>(consumer: &mut C, bytes: &[u8], place: usize) -> Result<usize, Refused>
@@ -75,7 +75,12 @@ fn tell<C: Consumer>(consumer: &mut C, shape: &Shape, bytes: &[u8]) -> Result<()
 /// rows or changes the same once, also where it has no item; of the start of a snapshot that all is to be cleared; of
 /// any other answer nothing. `Refused` comes where the consumer refused a callback: no callback of the reply was called
 /// after it, and the consumer was told to go back to `floor`.
-pub fn dispatch<C: Consumer>(consumer: &mut C, shape: &Shape, bytes: &[u8], floor: u64) -> Result<(), Refused>
+pub fn dispatch<C: Consumer>(
+    consumer: &mut C,
+    shape: &Shape,
+    bytes: &[u8],
+    floor: u64,
+) -> Result<(), Refused>
     requires { (callbacks : List Callback) × Describes shape.now bytes.now callbacks }
     ensures told { (callbacks : List Callback) → Describes shape.now bytes.now callbacks → Dispatched result callbacks floor (C.calls consumer.old) (C.calls consumer.new) }
     ensures cause { HasCause (C.refusals consumer.old) (C.refusals consumer.new) result }

@@ -34,7 +34,12 @@ fn end<C: Consumer>(consumer: &mut C, scn: u64) -> Result<(), Refused>
 }
 
 // Calls the events from a place on, and answers the place behind them.
-fn events<C: Consumer>(consumer: &mut C, scn: u64, bytes: &[u8], from: usize) -> Result<usize, Refused>
+fn events<C: Consumer>(
+    consumer: &mut C,
+    scn: u64,
+    bytes: &[u8],
+    from: usize,
+) -> Result<usize, Refused>
     requires { HaveEvents scn (drop from bytes.now) }
     ensures told { (changes : List Change) (rest : List ℕ) → AreEvents scn changes (drop from bytes.now) rest →
         MakesUpTo bytes.now rest result (map (λ c. OnEvent scn (record { scn = scn; change = c })) changes) (C.calls consumer.old) (C.calls consumer.new) }
@@ -49,7 +54,12 @@ fn events<C: Consumer>(consumer: &mut C, scn: u64, bytes: &[u8], from: usize) ->
 }
 
 // Calls the start of a run, its events from a place on, and its end, and answers the place behind the events.
-pub(crate) fn run<C: Consumer>(consumer: &mut C, scn: u64, bytes: &[u8], from: usize) -> Result<usize, Refused>
+pub(crate) fn run<C: Consumer>(
+    consumer: &mut C,
+    scn: u64,
+    bytes: &[u8],
+    from: usize,
+) -> Result<usize, Refused>
     requires { HaveEvents scn (drop from bytes.now) }
     ensures told { (changes : List Change) (rest : List ℕ) → AreEvents scn changes (drop from bytes.now) rest →
         MakesUpTo bytes.now rest result (run_calls scn changes) (C.calls consumer.old) (C.calls consumer.new) }

@@ -1,4 +1,4 @@
-use Rattle.std.proofs.Common.{arith, ap, sym, subst, ◌∙◌}
+use Rattle.std.proofs.Common.{arith, ap, ◌∙◌}
 use Rattle.std.specs.Prelude.{Err}
 use Rattle.std.proofs.lemmas.Result.{err_from_is_err_and}
 use Rattle.dispatcher.proofs.Lists.{makes_err}
@@ -24,7 +24,7 @@ loop-place-smaller g c =
 pub loop-place-preserved : goal.loop-place-preserved
 loop-place-preserved g c = record {
   told = λ windows are.
-    windows_more windows c.args.bytes.now _ c.in_ok-place.place _ _ _ (here_some c.args.bytes.now c.loop-place.place c.loop-place-test.true) c.in_ok-place.ensures.told (c.loop-place.invariant.told windows are);
+      windows_more windows c.args.bytes.now _ c.in_ok-place.place _ _ _ (here_some c.args.bytes.now c.loop-place.place c.loop-place-test.true) c.in_ok-place.ensures.told (c.loop-place.invariant.told windows are);
   later = omega (arith, c.loop-place.invariant.later, c.in_ok-place.ensures.cause.later);
 }
 

@@ -1,4 +1,4 @@
-use Rattle.std.proofs.Common.{ℕ, ◌-◌, ◌≤◌, List, length, drop}
+use Rattle.std.proofs.Common.{◌-◌, ◌≤◌, List, length, drop}
 use Rattle.bus_types.specs.Window.{Span}
 use Rattle.dispatcher.specs.Telling.{AreAll}
 use Rattle.dispatcher.proofs.Spans.{WindowsTold}

@@ -12,13 +12,13 @@ pub returns-in_err-event-clause-told : goal.returns-in_err-event-clause-told
 returns-in_err-event-clause-told g c = let p = err_from_is_err_and c.from_residual.result c.from_residual.ensures.1 in λ changes rest are.
     up_to_stop c.args.bytes.now rest c.from_residual.result c.in_err-event.field-0.0 _ _ _ (p.1 ∙ ap Err p.2)
     (told_stop c.args.scn changes c.args.bytes.now c.loop-view.place rest _ _ _ c.in-Some.view c.in-Some.next _ c.in-Some.ensures.found.0 c.in-Some.ensures.found.1 c.in_err-event.ensures.told
-      (c.loop-view.invariant.told changes rest are))
+    (c.loop-view.invariant.told changes rest are))
 
 pub loop-view-preserved : goal.loop-view-preserved
 loop-view-preserved g c = record {
   told = λ changes rest are.
-    told_more c.args.scn changes c.args.bytes.now c.loop-view.place rest _ _ _ c.in-Some.view c.in-Some.next c.in-Some.ensures.found.0 c.in-Some.ensures.found.1
-    c.in_ok-event.ensures.told (c.loop-view.invariant.told changes rest are);
+      told_more c.args.scn changes c.args.bytes.now c.loop-view.place rest _ _ _ c.in-Some.view c.in-Some.next c.in-Some.ensures.found.0 c.in-Some.ensures.found.1
+      c.in_ok-event.ensures.told (c.loop-view.invariant.told changes rest are);
   later = omega (arith, c.loop-view.invariant.later, c.in_ok-event.ensures.cause.later);
 }
 

@@ -7,7 +7,7 @@ use Rattle.dispatcher.proofs.run.events.Given as goal
 abbrev pub invariant-loop-view : goal.invariant-loop-view
 invariant-loop-view g l = record {
   told : (changes : List Change) (rest : List ℕ) → AreEvents l.scn changes (drop l.from l.bytes) rest
-    → EventsTold l.scn changes (drop l.place l.bytes) rest (g.C.Consumer.calls l.fn.consumer) (g.C.Consumer.calls l.consumer);
+      → EventsTold l.scn changes (drop l.place l.bytes) rest (g.C.Consumer.calls l.fn.consumer) (g.C.Consumer.calls l.consumer);
   later : g.C.Consumer.refusals l.fn.consumer ≤ g.C.Consumer.refusals l.consumer;
 }
 
