@@ -2,7 +2,9 @@ pub mod Names
 pub mod Entries
 pub mod TableLaws
 pub mod Stretches
+pub mod Floors
 pub mod Runs
 pub mod Options
 pub mod Numbers
 pub mod Cuts
+pub mod Feeding

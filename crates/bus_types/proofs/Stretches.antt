@@ -33,7 +33,7 @@ pub between_above : (low high : ℕ) (w : Span) (ws : List Span) → high < w.sc
 between_above low high w ws h = cond-false (nat_lt low w.scn && nat_le w.scn high) _ _ (and_right _ _ (lt-leb w.scn high h))
 
 -- the three cases of a first window
-between_cases : (P : List Span → Type 0) (low high : ℕ) (w : Span) (ws : List Span) → (low < w.scn → w.scn ≤ high → P (w ∷ windows_between low high ws)) → (w.scn ≤ low → P (windows_between low high ws)) → (high < w.scn → P (windows_between low high ws)) → P (windows_between low high (w ∷ ws))
+pub between_cases : (P : List Span → Type 0) (low high : ℕ) (w : Span) (ws : List Span) → (low < w.scn → w.scn ≤ high → P (w ∷ windows_between low high ws)) → (w.scn ≤ low → P (windows_between low high ws)) → (high < w.scn → P (windows_between low high ws)) → P (windows_between low high (w ∷ ws))
 between_cases P low high w ws inside below above =
     elim (cases_lt low w.scn) [
       | inl l ↦ elim (cases_lt high w.scn) [

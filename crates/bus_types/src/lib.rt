@@ -19,7 +19,10 @@ pub use accepts::{Accepts, Everything};
 pub use change::{Change, Key, RowName};
 pub use changes::Changes;
 pub use fault::{Failed, NoMemory};
-pub use laws::{a_reply_is_the_longest_run, table_holds_last_puts};
+pub use laws::{
+    a_relay_stands_for_its_timeline, a_reply_is_the_longest_run, table_holds_last_puts,
+    the_floor_is_the_least_place_with_room, the_floor_is_where_windows_were_evicted,
+};
 pub use limits::{MAX_CHANGES, MAX_PAYLOAD, MAX_SCN, MAX_WINDOW};
 pub use payload::{Payload, PayloadFault};
 pub use row::{Cursor, MarkText, Row, Rows};
