@@ -1,6 +1,6 @@
 -- What is told of a relay's answer, and what is sent of it.
 use Rattle.std.specs.Prelude.{◌≡◌, ℕ, ◌<◌, ◌≤◌, List, [], length}
-use Rattle.bus_types.specs.declared.limits.TheConstants.{MAX_SCN}
+use Rattle.bus_types.specs.declared.limits.TheConstants.{MAX_SCN, MAX_WINDOW}
 use Rattle.bus_types.specs.Window.{Span}
 use Rattle.bus_types.specs.Timeline.{end_of, total_size}
 use Rattle.bus_types.specs.Relay as relay
@@ -40,12 +40,12 @@ reply_bytes (NoWindow n) = answer_bytes (frames.NotFound n)
 reply_bytes (NothingNew n) = answer_bytes (frames.Empty n)
 reply_bytes (TooLarge n) = answer_bytes (frames.TooSmall n)
 
--- the number of what is told is one of an answer: an SCN or a size
-abbrev pub FitsAnswer : Served → Type 0
-FitsAnswer (Windows number scn size) = Unit {0}
-FitsAnswer (NotFound floor) = floor ≤ MAX_SCN
-FitsAnswer (Empty end) = end ≤ MAX_SCN
-FitsAnswer (TooSmall need) = need ≤ MAX_SCN
+-- the numbers of what is told are such as a mark or an answer has
+abbrev pub IsInRange : Served → Type 0
+IsInRange (Windows number scn size) = scn ≤ MAX_SCN
+IsInRange (NotFound floor) = floor ≤ MAX_SCN
+IsInRange (Empty end) = end ≤ MAX_SCN
+IsInRange (TooSmall need) = need ≤ MAX_WINDOW
 
 -- the bytes of what is told where no window is sent
 abbrev pub answer_sent : Served → List ℕ
