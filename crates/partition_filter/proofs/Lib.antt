@@ -1,0 +1,4 @@
+pub mod Loops
+pub mod ListedTexts
+pub mod RuleTexts
+pub mod FilterTexts
