@@ -17,7 +17,8 @@ use Rattle.partition_filter.specs.Grammar.{rule_of, next_rule, with_rule, rules_
 use Rattle.partition_filter.specs.Reading.{Reads}
 use Rattle.partition_filter.specs.Selection.{Selection}
 use Rattle.partition_filter.specs.Selection.Selection.{All, Rules}
-use Rattle.partition_filter.specs.Spelling.{rule_text, filter_text, most_rules, longest_text, is_above, rises, IsRule, AreRules, IsFilter}
+use Rattle.partition_filter.specs.Rising.{is_above, rises}
+use Rattle.partition_filter.specs.Spelling.{rule_text, filter_text, most_rules, longest_text, IsRule, AreRules, IsFilter}
 use Rattle.partition_filter.proofs.ListedTexts.{split_again}
 use Rattle.partition_filter.proofs.RuleTexts.{is_rule_byte, rule_bytes, rule_taken, rule_again}
 
@@ -158,3 +159,7 @@ pub bad : (result : Result Selection FilterFault) (text : List ℕ) → Reads re
 bad (Ok read) text h place is filter valid spelled = cc is
 bad (Err (BadFilter p)) text h place is filter valid spelled = cc (sym h ∙ filter_again text filter valid spelled)
 bad (Err NoMemory) text h place is filter valid spelled = cc is
+
+-- what is written is read back
+pub read_back : (filter : Selection) → IsFilter filter → filter_of (filter_text filter) ≡ Ok filter
+read_back filter is = filter_again (filter_text filter) filter is refl

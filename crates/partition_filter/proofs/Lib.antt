@@ -2,3 +2,5 @@ pub mod Loops
 pub mod ListedTexts
 pub mod RuleTexts
 pub mod FilterTexts
+pub mod Searches
+pub mod Written

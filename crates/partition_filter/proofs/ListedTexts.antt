@@ -12,7 +12,8 @@ use Rattle.bus_types.proofs.Cuts.{Lacks, Lacks-from_test}
 use Rattle.bus_types.proofs.Numbers.{all_digits-decimal, number_taken, number_again}
 use Rattle.bus_types.proofs.Options.{bind_some}
 use Rattle.partition_filter.specs.Grammar.{numbers_of, listed_of}
-use Rattle.partition_filter.specs.Spelling.{listed_text, most_numbers, rises, IsListed}
+use Rattle.partition_filter.specs.Rising.{rises}
+use Rattle.partition_filter.specs.Spelling.{listed_text, most_numbers, IsListed}
 
 -- ---- texts with one byte between two
 

@@ -7,7 +7,8 @@ use Rattle.partition_filter.specs.declared.rule.Keys.TheVariants.{Every, Remaind
 use Rattle.partition_filter.specs.declared.rule.Rule.{Rule}
 use Rattle.partition_filter.specs.Selection.{Selection}
 use Rattle.partition_filter.specs.Selection.Selection.{All, Rules}
-use Rattle.partition_filter.specs.Spelling.{most_rules, most_numbers, longest_text, is_above, rises}
+use Rattle.partition_filter.specs.Rising.{is_above, rises}
+use Rattle.partition_filter.specs.Spelling.{most_rules, most_numbers, longest_text}
 
 -- ---- numbers
 

@@ -15,9 +15,9 @@ pub data Selection : Type 0 where
   Rules : List Rule → Selection
 
 -- a filter by its rules, where it has some
-abbrev pub chosen : Option (Vec Rule Global) → Selection
-chosen None = All
-chosen (Some rules) = Rules rules.items
+abbrev pub selected : Option (Vec Rule Global) → Selection
+selected None = All
+selected (Some rules) = Rules rules.items
 
 -- the keys of a source that are meant: every one; or those whose remainder by a number is listed; or those that are a
 -- listed number when divided by a number, rounded down

@@ -1,9 +1,10 @@
 -- The one text of each filter, said without reading, and which filters there are.
-use Rattle.std.specs.Prelude.{◌≡◌, ℕ, ◌<◌, ◌≤◌, ◌^◌, Bool, true, nat_lt, ◌&&◌, List, [], ◌∷◌, ◌++◌, length, map, codes, decimal, Option, Some, None}
+use Rattle.std.specs.Prelude.{◌≡◌, ℕ, ◌<◌, ◌≤◌, ◌^◌, true, List, ◌++◌, length, map, codes, decimal, None}
 use Rattle.std.specs.List.{AllByRecursion, join_with_byte}
 use Rattle.partition_filter.specs.declared.rule.Keys.{Keys}
 use Rattle.partition_filter.specs.declared.rule.Keys.TheVariants.{Every, Remainder, Quotient}
 use Rattle.partition_filter.specs.declared.rule.Rule.{Rule}
+use Rattle.partition_filter.specs.Rising.{rises}
 use Rattle.partition_filter.specs.Selection.{Selection}
 use Rattle.partition_filter.specs.Selection.Selection.{All, Rules}
 
@@ -37,16 +38,6 @@ most_numbers = 64
 
 abbrev pub longest_text : ℕ
 longest_text = 4096
-
--- whether a number is above the one before it, where there is one
-abbrev pub is_above : Option ℕ → ℕ → Bool
-is_above None number = true
-is_above (Some before) number = nat_lt before number
-
--- whether each number is above the one before it
-abbrev pub rises : Option ℕ → List ℕ → Bool
-rises before [] = true
-rises before (number ∷ numbers) = is_above before number && rises (Some number) numbers
 
 -- 1 to 64 numbers below a limit, in strictly rising order
 pub record IsListed (limit : ℕ) (listed : List ℕ) : Type 0 where

@@ -1,15 +1,16 @@
-ghost use Rattle.std.specs.Prelude.{◌≡◌, ◌↔◌, ℕ, IfOk, IsTrue};
+ghost use Rattle.std.specs.Prelude.{◌≡◌, ◌↔◌, ◌++◌, ℕ, IfOk, OnOk, IsTrue, string_bytes};
 ghost use Rattle.partition_filter.specs.Grammar.{filter_of};
 ghost use Rattle.partition_filter.specs.Reading.{Reads};
 ghost use Rattle.partition_filter.specs.Selection.Selection.{All};
-ghost use Rattle.partition_filter.specs.Selection.{Selection};
+ghost use Rattle.partition_filter.specs.Selection.{Selection, selected};
 ghost use Rattle.partition_filter.specs.Spelling.{IsFilter, filter_text};
 
 use crate::accepting::accepts;
 use crate::fault::FilterFault;
 use crate::reading::rules;
 use crate::rule::Rule;
-use bus_types::{Accepts, Key};
+use crate::writing::{append_rules, append_text};
+use bus_types::{Accepts, Key, NoMemory};
 use std::alloc::Global;
 use std::marker::Model;
 
@@ -23,14 +24,14 @@ pub struct Filter {
 }
 
 impl Model for Filter {
-    ghost use Rattle.partition_filter.specs.Selection.{Selection, chosen};
+    ghost use Rattle.partition_filter.specs.Selection.{Selection, selected};
     ghost use Rattle.partition_filter.specs.Spelling.{IsFilter};
 
     ghost Value = { Selection };
 
-    ghost view = { λ f. chosen f.rules };
+    ghost view = { λ f. selected f.rules };
 
-    ghost invariant = { λ f. IsFilter (chosen f.rules) };
+    ghost invariant = { λ f. IsFilter (selected f.rules) };
 }
 
 impl Filter {
@@ -64,12 +65,53 @@ impl Filter {
         selection(alloc, text)
     }
 
+    /// Its text, of at most 4,096 bytes, from which [`Filter::read`] reads it back.
+    pub fn write(&self, alloc: Global) -> Result<String, NoMemory>
+        ensures text { IfOk result (λ text. string_bytes text ≡ filter_text self.now) }
+        ensures read_back { filter_of (filter_text self.now) ≡ Ok self.now }
+    {
+        let mut text = String::new(alloc);
+        append_filter(&self.rules, &mut text)?;
+        Ok(text)
+    }
+
+    /// An equal filter.
+    pub fn copy(&self, alloc: Global) -> Result<Filter, NoMemory>
+        ensures { IfOk result (λ filter. filter ≡ self.now) }
+    {
+        match &self.rules {
+            None => Ok(Filter { rules: None }),
+            Some(rules) => Ok(Filter {
+                rules: Some(copy_rules(alloc, rules)?),
+            }),
+        }
+    }
+
     /// Whether it means every row by its text `all`.
     pub fn is_all(&self) -> bool
         ensures { IsTrue result ↔ (self.now ≡ All) }
     {
         self.rules.is_none()
     }
+}
+
+fn append_filter(rules: &Option<Vec<Rule>>, out: &mut String) -> Result<(), NoMemory>
+    ensures { OnOk result (string_bytes out.new ≡ string_bytes out.old ++ filter_text (selected rules.now)) }
+{
+    match rules {
+        None => append_text("all", out),
+        Some(rules) => append_rules(rules, out),
+    }
+}
+
+fn copy_rules(alloc: Global, rules: &[Rule]) -> Result<Vec<Rule>, NoMemory>
+    ensures { IfOk result (λ copies. copies.items ≡ rules.now) }
+{
+    let mut copies = Vec::with_capacity(alloc, rules.len())?;
+    for rule in rules {
+        copies.push(rule.copy(alloc)?)?;
+    }
+    Ok(copies)
 }
 
 #[tactic(auto, unfolding(crate::specs::Grammar::filter_of))]
@@ -80,7 +122,9 @@ fn selection(alloc: Global, text: &[u8]) -> Result<Filter, FilterFault>
         return Ok(Filter { rules: None });
     }
     if text.len() > MAX_TEXT {
-        return Err(FilterFault::BadFilter { place: 4096 });
+        return Err(FilterFault::BadFilter {
+            place: MAX_TEXT as u64,
+        });
     }
     let rules = rules(alloc, text)?;
     Ok(Filter { rules: Some(rules) })

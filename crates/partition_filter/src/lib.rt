@@ -7,8 +7,14 @@ mod accepting;
 mod fault;
 mod filter;
 mod reading;
+mod rows;
 mod rule;
+mod writing;
 
 pub use fault::FilterFault;
 pub use filter::Filter;
+pub use rows::{the_65th_rule_is_refused, what_filters_mean, worked_filters};
 pub use rule::{Keys, Numbers, Rule};
+
+#[cfg(test)]
+mod tests;

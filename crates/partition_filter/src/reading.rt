@@ -2,7 +2,8 @@ ghost use Rattle.std.specs.Prelude.{◌≡◌, ◌==◌, ◌≤◌, None, IfOk, 
 ghost use Rattle.std.specs.List.{slice_split};
 ghost use Rattle.partition_filter.specs.Grammar.{numbers_of, listed_of, divisor_of, remainder_of, quotient_of, every_of, rule_from, rule_of, next_rule, rules_of};
 ghost use Rattle.partition_filter.specs.Reading.{ReadsAs, Finds};
-ghost use Rattle.partition_filter.specs.Spelling.{is_above, rises};
+ghost use Rattle.partition_filter.specs.Rising.{is_above, rises};
+ghost use Rattle.partition_filter.specs.Spelling.{AreRules};
 
 use crate::fault::FilterFault;
 use crate::rule::{Keys, Numbers, Rule};
@@ -21,7 +22,8 @@ const MAX_REMAINDER: u64 = 65_536;
 /// The rules that the text spells.
 pub(crate) fn rules(alloc: Global, text: &[u8]) -> Result<Vec<Rule>, FilterFault>
     requires { length text.now ≤ 4096 }
-    ensures { ReadsAs (λ rules. rules.items) result (rules_of 0 0 None (slice_split (λ b. b == 59) text.now)) }
+    ensures exact { ReadsAs (λ rules. rules.items) result (rules_of 0 0 None (slice_split (λ b. b == 59) text.now)) }
+    ensures valid { IfOk result (λ rules. AreRules rules.items) }
 {
     let texts = parts(alloc, b';', text)?;
     let mut rules = Vec::new(alloc);
@@ -187,16 +189,16 @@ fn numbers(alloc: Global, max: u64, text: &[u8]) -> Result<Option<Numbers>, NoMe
     let Some(numbers) = each_number(alloc, max, &texts)? else {
         return Ok(None);
     };
-    if numbers.items().len() <= MAX_NUMBERS && rises(numbers.items()) {
-        Ok(Some(numbers))
+    if numbers.len() <= MAX_NUMBERS && rises(&numbers) {
+        Ok(Some(Numbers::new(numbers)))
     } else {
         Ok(None)
     }
 }
 
 /// The numbers of the texts, each at most `max`.
-fn each_number(alloc: Global, max: u64, texts: &[&[u8]]) -> Result<Option<Numbers>, NoMemory>
-    ensures { IfOk result (λ numbers. numbers ≡ numbers_of max (map (λ text. text.now) texts.now)) }
+fn each_number(alloc: Global, max: u64, texts: &[&[u8]]) -> Result<Option<Vec<u64>>, NoMemory>
+    ensures { IfOk result (λ numbers. option_map (λ v. v.items) numbers ≡ numbers_of max (map (λ text. text.now) texts.now)) }
 {
     let mut numbers = Vec::with_capacity(alloc, texts.len())?;
     for text in texts {
@@ -205,7 +207,7 @@ fn each_number(alloc: Global, max: u64, texts: &[&[u8]]) -> Result<Option<Number
         };
         numbers.push(number)?;
     }
-    Ok(Some(Numbers::new(numbers)))
+    Ok(Some(numbers))
 }
 
 /// Whether each number is above the one before it.

@@ -1,5 +1,8 @@
-ghost use Rattle.std.specs.Prelude.{◌≡◌};
+ghost use Rattle.std.specs.Prelude.{◌≡◌, true, None, IfOk};
+ghost use Rattle.partition_filter.specs.Rising.{rises};
 
+use bus_types::NoMemory;
+use std::alloc::Global;
 use std::marker::Model;
 
 /// Numbers in strictly rising order. Contracts see the list of them.
@@ -9,24 +12,38 @@ pub struct Numbers {
 }
 
 impl Model for Numbers {
-    ghost use Rattle.std.specs.Prelude.{List, ℕ};
+    ghost use Rattle.std.specs.Prelude.{◌≡◌, ℕ, true, List, None};
+    ghost use Rattle.partition_filter.specs.Rising.{rises};
 
     ghost Value = { List ℕ };
 
     ghost view = { λ n. n.items.items };
+
+    ghost invariant = { λ n. rises None n.items.items ≡ true };
 }
 
 impl Numbers {
     // These numbers.
     pub(crate) fn new(items: Vec<u64>) -> Numbers
+        requires { rises None items.items ≡ true }
         ensures { result ≡ items.items }
     {
         Numbers { items }
     }
 
+    // Equal numbers.
+    fn copy(&self, alloc: Global) -> Result<Numbers, NoMemory>
+        ensures { IfOk result (λ numbers. numbers ≡ self.now) }
+    {
+        Ok(Numbers {
+            items: Vec::from_slice(alloc, &self.items)?,
+        })
+    }
+
     /// The numbers, in order.
     pub fn items(&self) -> &[u64]
-        ensures { result.now ≡ self.now }
+        ensures value { result.now ≡ self.now }
+        ensures rising { rises None self.now ≡ true }
     {
         &self.items
     }
@@ -53,6 +70,25 @@ pub enum Keys {
     },
 }
 
+impl Keys {
+    // Equal keys.
+    fn copy(&self, alloc: Global) -> Result<Keys, NoMemory>
+        ensures { IfOk result (λ keys. keys ≡ self.now) }
+    {
+        match self {
+            Keys::Every => Ok(Keys::Every),
+            Keys::Remainder { by, listed } => Ok(Keys::Remainder {
+                by: *by,
+                listed: listed.copy(alloc)?,
+            }),
+            Keys::Quotient { by, listed } => Ok(Keys::Quotient {
+                by: *by,
+                listed: listed.copy(alloc)?,
+            }),
+        }
+    }
+}
+
 /// Which rows of one source are meant.
 #[derive(Debug, Drop)]
 pub struct Rule {
@@ -60,4 +96,16 @@ pub struct Rule {
     pub source: u16,
     /// The keys that are meant.
     pub keys: Keys,
+}
+
+impl Rule {
+    // An equal rule.
+    pub(crate) fn copy(&self, alloc: Global) -> Result<Rule, NoMemory>
+        ensures { IfOk result (λ rule. rule ≡ self.now) }
+    {
+        Ok(Rule {
+            source: self.source,
+            keys: self.keys.copy(alloc)?,
+        })
+    }
 }

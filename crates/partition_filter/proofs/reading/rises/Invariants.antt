@@ -1,5 +1,5 @@
 use Rattle.std.proofs.Common.{◌≡◌, None, drop}
-use Rattle.partition_filter.specs.Spelling.{rises}
+use Rattle.partition_filter.specs.Rising.{rises}
 use Rattle.partition_filter.proofs.reading.rises.Given as goal
 
 abbrev pub invariant-loop-number : goal.invariant-loop-number

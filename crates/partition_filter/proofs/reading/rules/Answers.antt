@@ -1,6 +1,7 @@
 use Rattle.std.proofs.Common.{◌≡◌, ◌+◌, [], refl, length, get_or, map, arith}
 use Rattle.std.proofs.lemmas.List.{get_or-map, length-map}
 use Rattle.std.proofs.lemmas.Result.{err_from_is_err_and}
+use Rattle.partition_filter.proofs.FilterTexts.{all_taken}
 use Rattle.partition_filter.proofs.Loops.{after-none, after-more, after-bad, after-all, room-slice_split, room-more}
 use Rattle.partition_filter.proofs.reading.rules.Goals as goal
 
@@ -21,8 +22,8 @@ overflow_add-place-in-loop-part c =
     let short = c.requires in
     omega arith
 
-pub returns-in_err-rule : goal.returns-in_err-rule
-returns-in_err-rule c =
+pub returns-in_err-rule-clause-exact : goal.returns-in_err-rule-clause-exact
+returns-in_err-rule-clause-exact c =
     let lt = c.loop-part-test.true in
     let p = err_from_is_err_and c.from_residual-in_err-rule.result c.from_residual-in_err-rule.ensures.1 in
     let part = get_or-map (λ part. part.now) c.deref-part-items.result.now c.loop-part.part-index record { ref_ptr = (0, 0); now = [] } [] lt in
@@ -38,5 +39,10 @@ loop-part-preserved c =
       room = room-more (map (λ part. part.now) c.deref-part-items.result.now) c.loop-part.part-index c.loop-part.place _ _ _ (rw length-map lt) part (omega arith) c.loop-part.invariant.room;
     }
 
-pub returns : goal.returns
-returns c = after-all _ (map (λ part. part.now) c.deref-part-items.result.now) c.loop-part.part-index _ _ _ _ (rw length-map c.loop-part-test.false) c.loop-part.invariant.same
+pub returns-clause-exact : goal.returns-clause-exact
+returns-clause-exact c = after-all _ (map (λ part. part.now) c.deref-part-items.result.now) c.loop-part.part-index _ _ _ _ (rw length-map c.loop-part-test.false) c.loop-part.invariant.same
+
+pub returns-clause-valid : goal.returns-clause-valid
+returns-clause-valid c =
+    let read = after-all _ (map (λ part. part.now) c.deref-part-items.result.now) c.loop-part.part-index _ _ _ _ (rw length-map c.loop-part-test.false) c.loop-part.invariant.same in
+    (all_taken c.args.text.now c.loop-part.rules.items c.requires read).0
