@@ -5,16 +5,16 @@ use Rattle.std.specs.List.{slice_get, slice_set, AllByRecursion}
 use Rattle.std.proofs.lemmas.Option.{option_and_then_some, some_pair_parts}
 use Rattle.std.proofs.lemmas.Bool.{ltb-true}
 use Rattle.bus_types.specs.Change.{Test}
-use Rattle.bus_types.specs.View.{everything}
 use Rattle.bus_types.specs.Window.{Span, span_size}
 use Rattle.bus_types.specs.Timeline.{end_from, windows_between}
 use Rattle.bus_types.specs.Cut.{cuts}
 use Rattle.bus_types.specs.Relay.{Served, longest_run, most_windows, fitting}
 use Rattle.bus_types.specs.Relay.Served.{NotFound, Empty, TooSmall, Windows}
-use Rattle.bus_types.specs.Script.{Wish, Consumer, State, Step, begin, floor, relay_answer, scn_after, after_answer, asked, place_of, relay_step, consumer_step, commit_step, feed_step, poll_step, show_step}
+use Rattle.bus_types.specs.Script.{Wish, Consumer, State, Step, begin, floor, relay_answer, scn_after, after_answer, asked, place_of, relay_step, consumer_step, commit_step, feed_step, poll_step, show_step, stream_step}
 use Rattle.bus_types.specs.Script.Wish.{NoWish, StartWish}
+use Rattle.partition_filter.specs.Selection.{test_of}
 use Rattle.trace_script.specs.declared.line.Line.{Line}
-use Rattle.trace_script.specs.declared.line.Line.TheVariants.{Blank, Relay, Consumer as NewConsumer, Commit, Feed, Poll, Show}
+use Rattle.trace_script.specs.declared.line.Line.TheVariants.{Blank, Relay, Consumer as NewConsumer, Commit, Feed, Poll, Show, Stream}
 use Rattle.trace_script.specs.Lines.{line_of}
 use Rattle.trace_script.specs.Run.{RawLine, is_too_long, line_step, text_step, state_after, GoOn}
 
@@ -121,14 +121,15 @@ leads_asked s i c max NoWish at = leads_some s _ _ (go_on_set s.consumers i c (a
 leads_asked s i c max StartWish at = leads_some s _ _ (go_on_set s.consumers i c (record c { wish = NoWish }) at refl refl (omega arith))
 
 leads_line : (s : State) (line : Line) → Leads s (line_step s line)
-unfolding relay_step consumer_step commit_step feed_step poll_step show_step
+unfolding relay_step consumer_step commit_step feed_step poll_step show_step stream_step
 leads_line s Blank = leads_some s s [] (go_on_same s.consumers)
 leads_line s (Relay bytes windows) = leads_begin s (relay_step s bytes windows) (leads_choice s _ _ _ (leads_none s) (leads_some s _ _ (go_on_same s.consumers)))
-leads_line s (NewConsumer name) = leads_begin s (consumer_step s name everything) (leads_choice s _ _ _ (leads_none s) (leads_some s _ _ (go_on_push s.consumers _)))
+leads_line s (NewConsumer name filter) = leads_begin s (consumer_step s name (test_of filter)) (leads_choice s _ _ _ (leads_none s) (leads_some s _ _ (go_on_push s.consumers _)))
 leads_line s (Commit scn changes) = leads_begin s (commit_step s scn changes) (leads_choice s _ _ _ (leads_none s) (leads_choice s _ _ _ (leads_none s) (leads_some s _ _ (go_on_same s.consumers))))
 leads_line s (Feed count) = leads_begin s (feed_step s count) (leads_some s _ _ (go_on_same s.consumers))
 leads_line s (Poll name max) = leads_begin s (poll_step s name max) (leads_then s _ (place_of name s.consumers) (λ i p. leads_then s _ (slice_get s.consumers i) (λ c at. leads_asked s i c max c.wish at)))
 leads_line s (Show name) = leads_begin s (show_step s name) (leads_then s _ (place_of name s.consumers) (λ i p. leads_then s _ (slice_get s.consumers i) (λ c at. leads_some s _ _ (go_on_same s.consumers))))
+leads_line s (Stream scn filter max) = leads_begin s (stream_step s scn (test_of filter) max) (leads_some s _ _ (go_on_same s.consumers))
 
 leads_text : (s : State) (text : List ℕ) → Leads s (text_step s text)
 unfolding text_step

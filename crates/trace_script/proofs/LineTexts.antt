@@ -14,15 +14,19 @@ use Rattle.bus_types.specs.Change.{IsChange, AreChanges}
 use Rattle.trace_script.specs.declared.fault.LineFault.{LineFault}
 use Rattle.trace_script.specs.declared.fault.LineFault.TheVariants.{BadLine, NoMemory}
 use Rattle.trace_script.specs.declared.line.Line.{Line}
-use Rattle.trace_script.specs.declared.line.Line.TheVariants.{Blank, Relay, Consumer, Commit, Feed, Poll, Show}
+use Rattle.trace_script.specs.declared.line.Line.TheVariants.{Blank, Relay, Consumer, Commit, Feed, Poll, Show, Stream}
+use Rattle.bus_types.specs.declared.limits.TheConstants.{MAX_SCN}
 use Rattle.bus_types.specs.Text.{number_of, max_u64}
-use Rattle.trace_script.specs.Words.{words_of, number_in, is_name_text, name_of, changes_of}
-use Rattle.trace_script.specs.Lines.{is_blank, relay_of, consumer_of, commit_of, feed_of, poll_of, show_of, words_line, line_of}
+use Rattle.partition_filter.specs.Selection.{Selection}
+use Rattle.partition_filter.specs.Spelling.{IsFilter, filter_text}
+use Rattle.trace_script.specs.Words.{words_of, number_in, is_name_text, name_of, selection_of, changes_of}
+use Rattle.trace_script.specs.Lines.{is_blank, relay_of, consumer_of, commit_of, feed_of, poll_of, show_of, stream_of, words_line, line_of}
 use Rattle.trace_script.specs.Spelling.{IsName, IsRoom, IsLine, Spells, change_text, line_words}
 use Rattle.trace_script.specs.Reading.{Reads}
 use Rattle.bus_types.proofs.Options.{bind_some, chosen}
 use Rattle.bus_types.proofs.Numbers.{number_taken, number_again}
 use Rattle.trace_script.proofs.ChangeTexts.{changes_taken, changes_again}
+use Rattle.trace_script.proofs.FilterTexts.{selection_taken, selection_again, IsWord-filter, filter_nonempty}
 use Rattle.trace_script.proofs.WordTexts.{IsWord, words_again, no_return, IsWord-decimal, IsWord-name, words-changes}
 
 -- ---- what is read is spelled so
@@ -63,10 +67,11 @@ consumer_taken : (words : List (List ℕ)) (line : Line) → consumer_of words �
 unfolding consumer_of
 consumer_taken (name ∷ filter ∷ []) line h =
     let known = bind_some (name_of name) _ line h in
-    let end = cond_some (bytes_eq filter (codes "all")) (Consumer known.0) line known.2 in
-    let all = (bytes_eq-Decides filter (codes "all")).0 end.0 in
+    let rows = bind_some (selection_of filter) _ line known.2 in
+    let whole : Consumer known.0 rows.0 ≡ line = cc (rows.2) in
     let named = name_taken name known.0 known.1 in
-    rw (← end.1) (named.1, cc (named.0, all))
+    let spelled = selection_taken filter rows.0 rows.1 in
+    rw (← whole) ((named.1, spelled.0), cc (named.0, spelled.1))
 consumer_taken [] line h = cc h
 consumer_taken (name ∷ []) line h = cc h
 consumer_taken (name ∷ filter ∷ more ∷ words) line h = cc h
@@ -117,6 +122,22 @@ show_taken (name ∷ []) line h =
 show_taken [] line h = cc h
 show_taken (name ∷ more ∷ words) line h = cc h
 
+stream_taken : (words : List (List ℕ)) (line : Line) → stream_of words ≡ Some line → HasWords (codes "stream" ∷ words) line
+unfolding stream_of
+stream_taken (scn ∷ filter ∷ max ∷ []) line h =
+    let number = bind_some (number_of MAX_SCN scn) _ line h in
+    let most = bind_some (number_in 1 16777216 max) _ line number.2 in
+    let rows = bind_some (selection_of filter) _ line most.2 in
+    let whole : Stream number.0 rows.0 most.0 ≡ line = cc (rows.2) in
+    let first = number_taken MAX_SCN number.0 scn (lit< tt) number.1 in
+    let second = selection_taken filter rows.0 rows.1 in
+    let third = number_in_taken 1 16777216 most.0 max (lit< tt) most.1 in
+    rw (← whole) ((first.1, second.0, (third.1, third.2)), cc (first.0, second.1, third.0))
+stream_taken [] line h = cc h
+stream_taken (scn ∷ []) line h = cc h
+stream_taken (scn ∷ filter ∷ []) line h = cc h
+stream_taken (scn ∷ filter ∷ max ∷ more ∷ words) line h = cc h
+
 -- a line whose first word is this name or another word
 by_name : (word name : List ℕ) (words : List (List ℕ)) (line : Line) (named others : Option Line)
     → (if bytes_eq word name then named else others) ≡ Some line
@@ -133,10 +154,11 @@ words_taken [] line h = cc h
 words_taken (word ∷ words) line h =
     by_name word (codes "commit") words line (commit_of words) _ h (commit_taken words line)
     (λ h. by_name word (codes "consumer") words line (consumer_of words) _ h (consumer_taken words line)
+    (λ h. by_name word (codes "stream") words line (stream_of words) _ h (stream_taken words line)
     (λ h. by_name word (codes "feed") words line (feed_of words) _ h (feed_taken words line)
     (λ h. by_name word (codes "poll") words line (poll_of words) _ h (poll_taken words line)
     (λ h. by_name word (codes "show") words line (show_of words) _ h (show_taken words line)
-    (λ h. by_name word (codes "relay") words line (relay_of words) None h (relay_taken words line) (λ h. cc h))))))
+    (λ h. by_name word (codes "relay") words line (relay_of words) None h (relay_taken words line) (λ h. cc h)))))))
 
 joined : (text : List ℕ) (words : List (List ℕ)) → words_of text ≡ words → text ≡ join_with_byte 32 words
 joined text words same = sym (join_with_byte-slice_split 32 text) ∙ ap (join_with_byte 32) same
@@ -144,11 +166,12 @@ joined text words same = sym (join_with_byte-slice_split 32 text) ∙ ap (join_w
 text_taken : (text : List ℕ) (line : Line) → HasWords (words_of text) line → Spells text line
 text_taken text Blank h = absurd h
 text_taken text (Relay bytes windows) h = (h.0, joined text _ h.1)
-text_taken text (Consumer name) h = (h.0, joined text _ h.1)
+text_taken text (Consumer name filter) h = (h.0, joined text _ h.1)
 text_taken text (Commit scn changes) h = (h.0, joined text _ h.1)
 text_taken text (Feed count) h = (h.0, joined text _ h.1)
 text_taken text (Poll name max) h = (h.0, joined text _ h.1)
 text_taken text (Show name) h = (h.0, joined text _ h.1)
+text_taken text (Stream scn filter max) h = (h.0, joined text _ h.1)
 
 pub line_taken : (text : List ℕ) (line : Line) → line_of text ≡ Some line → Spells text line
 unfolding line_of
@@ -177,6 +200,9 @@ is_full-decimal n fits = is_full (decimal n) (decimal_nonempty n fits)
 is_full-name : (name : List ℕ) → IsName name → (length name == 0) ≡ false
 is_full-name name named = is_full name (grind (arith, nat_tests))
 
+is_full-filter : (filter : Selection) → IsFilter filter → (length (filter_text filter) == 0) ≡ false
+is_full-filter filter h = is_full (filter_text filter) (filter_nonempty filter h)
+
 is_full-change : (c : Change) → IsChange c → (length (change_text c) == 0) ≡ false
 is_full-change c within =
     let small = within.source in
@@ -190,20 +216,22 @@ are_full-changes (c ∷ cs) within = rw (is_full-change c within.0) (are_full-ch
 are_full : (line : Line) → IsLine line → has_empty (line_words line) ≡ false
 are_full Blank h = refl
 are_full (Relay bytes windows) h = rw (is_full-decimal bytes (omega arith), is_full-decimal windows (omega arith)) refl
-are_full (Consumer name) h = rw (is_full-name name h) refl
+are_full (Consumer name filter) h = rw (is_full-name name h.0, is_full-filter filter h.1) refl
 are_full (Commit scn changes) h = rw (is_full-decimal scn h.0) (are_full-changes changes h.2)
 are_full (Feed count) h = rw (is_full-decimal count (omega arith)) refl
 are_full (Poll name max) h = rw (is_full-name name h.0, is_full-decimal max (omega arith)) refl
 are_full (Show name) h = rw (is_full-name name h) refl
+are_full (Stream scn filter max) h = rw (is_full-decimal scn (omega arith), is_full-filter filter h.1, is_full-decimal max (omega arith)) refl
 
 taken_full : (words : List (List ℕ)) (line : Line) → HasWords words line → has_empty words ≡ false
 taken_full words Blank h = absurd h
 taken_full words (Relay bytes windows) h = rw h.1 (are_full (Relay bytes windows) h.0)
-taken_full words (Consumer name) h = rw h.1 (are_full (Consumer name) h.0)
+taken_full words (Consumer name filter) h = rw h.1 (are_full (Consumer name filter) h.0)
 taken_full words (Commit scn changes) h = rw h.1 (are_full (Commit scn changes) h.0)
 taken_full words (Feed count) h = rw h.1 (are_full (Feed count) h.0)
 taken_full words (Poll name max) h = rw h.1 (are_full (Poll name max) h.0)
 taken_full words (Show name) h = rw h.1 (are_full (Show name) h.0)
+taken_full words (Stream scn filter max) h = rw h.1 (are_full (Stream scn filter max) h.0)
 
 none_taken : (read : Option Line) → ((line : Line) → read ≡ Some line → ⊥) → read ≡ None
 none_taken None h = refl
@@ -218,11 +246,12 @@ no_line words empty = none_taken (words_line words) (λ line read. cc (empty, ta
 words_are : (line : Line) → IsLine line → AllByRecursion IsWord (line_words line)
 words_are Blank h = tt
 words_are (Relay bytes windows) h = (refl, (IsWord-decimal bytes (omega arith), (IsWord-decimal windows (omega arith), tt)))
-words_are (Consumer name) h = (refl, (IsWord-name name h, (refl, tt)))
+words_are (Consumer name filter) h = (refl, (IsWord-name name h.0, (IsWord-filter filter h.1, tt)))
 words_are (Commit scn changes) h = (refl, (IsWord-decimal scn h.0, words-changes changes h.2 h.3))
 words_are (Feed count) h = (refl, (IsWord-decimal count (omega arith), tt))
 words_are (Poll name max) h = (refl, (IsWord-name name h.0, (IsWord-decimal max (omega arith), tt)))
 words_are (Show name) h = (refl, (IsWord-name name h, tt))
+words_are (Stream scn filter max) h = (refl, (IsWord-decimal scn (omega arith), (IsWord-filter filter h.1, (IsWord-decimal max (omega arith), tt))))
 
 from_words : (word : List ℕ) (words : List (List ℕ)) (line : Line) → AllByRecursion IsWord (word ∷ words)
     → is_blank (join_with_byte 32 (word ∷ words)) ≡ false → words_line (word ∷ words) ≡ Some line → line_of (join_with_byte 32 (word ∷ words)) ≡ Some line
@@ -238,9 +267,9 @@ unfolding words_line relay_of
 relay_again bytes windows h =
     rw (number_in_again 1048576 268435456 bytes (lit< tt) h.0 h.1, number_in_again 1 65536 windows (lit< tt) h.2 h.3) refl
 
-consumer_again : (name : List ℕ) → IsName name → words_line (line_words (Consumer name)) ≡ Some (Consumer name)
+consumer_again : (name : List ℕ) (filter : Selection) → IsLine (Consumer name filter) → words_line (line_words (Consumer name filter)) ≡ Some (Consumer name filter)
 unfolding words_line consumer_of name_of
-consumer_again name named = rw named refl
+consumer_again name filter h = rw (h.0, selection_again filter h.1) refl
 
 commit_again : (scn : ℕ) (changes : List Change) → IsLine (Commit scn changes) → words_line (line_words (Commit scn changes)) ≡ Some (Commit scn changes)
 unfolding words_line commit_of
@@ -259,15 +288,21 @@ show_again : (name : List ℕ) → IsName name → words_line (line_words (Show 
 unfolding words_line show_of name_of
 show_again name named = rw named refl
 
+stream_again : (scn : ℕ) (filter : Selection) (max : ℕ) → IsLine (Stream scn filter max) → words_line (line_words (Stream scn filter max)) ≡ Some (Stream scn filter max)
+unfolding words_line stream_of
+stream_again scn filter max h =
+    rw (number_again MAX_SCN scn (lit< tt) h.0, number_in_again 1 16777216 max (lit< tt) h.2.0 h.2.1, selection_again filter h.1) refl
+
 pub line_again : (text : List ℕ) (line : Line) → Spells text line → line_of text ≡ Some line
 unfolding line_of
 line_again text Blank h = rw (h.1, h.0) refl
 line_again text (Relay bytes windows) h = rw h.1 (from_words _ _ _ (words_are (Relay bytes windows) h.0) refl (relay_again bytes windows h.0))
-line_again text (Consumer name) h = rw h.1 (from_words _ _ _ (words_are (Consumer name) h.0) refl (consumer_again name h.0))
+line_again text (Consumer name filter) h = rw h.1 (from_words _ _ _ (words_are (Consumer name filter) h.0) refl (consumer_again name filter h.0))
 line_again text (Commit scn changes) h = rw h.1 (from_words _ _ _ (words_are (Commit scn changes) h.0) refl (commit_again scn changes h.0))
 line_again text (Feed count) h = rw h.1 (from_words _ _ _ (words_are (Feed count) h.0) refl (feed_again count h.0))
 line_again text (Poll name max) h = rw h.1 (from_words _ _ _ (words_are (Poll name max) h.0) refl (poll_again name max h.0))
 line_again text (Show name) h = rw h.1 (from_words _ _ _ (words_are (Show name) h.0) refl (show_again name h.0))
+line_again text (Stream scn filter max) h = rw h.1 (from_words _ _ _ (words_are (Stream scn filter max) h.0) refl (stream_again scn filter max h.0))
 
 -- ---- what a call answered
 

@@ -50,13 +50,13 @@ no_return (word ∷ next ∷ words) h =
 -- ---- words
 
 -- bytes that pass a test that no space and no CR passes
-IsWord-from_test : (test : ℕ → Bool) → ((b : ℕ) → test b ≡ true → is_word_byte b ≡ true) → (bytes : List ℕ) → list_all test bytes ≡ true → IsWord bytes
+pub IsWord-from_test : (test : ℕ → Bool) → ((b : ℕ) → test b ≡ true → is_word_byte b ≡ true) → (bytes : List ℕ) → list_all test bytes ≡ true → IsWord bytes
 IsWord-from_test test each [] all = refl
 IsWord-from_test test each (b ∷ bs) all =
     let parts = and_parts (test b) (list_all test bs) all in
     and_from (is_word_byte b) (list_all is_word_byte bs) (each b parts.0) (IsWord-from_test test each bs parts.1)
 
-IsWord-append : (xs ys : List ℕ) → IsWord xs → IsWord ys → IsWord (xs ++ ys)
+pub IsWord-append : (xs ys : List ℕ) → IsWord xs → IsWord ys → IsWord (xs ++ ys)
 IsWord-append xs ys h k = list_all-append is_word_byte xs ys ∙ and_from (list_all is_word_byte xs) (list_all is_word_byte ys) h k
 
 digit_in_word : (b : ℕ) → is_digit b ≡ true → is_word_byte b ≡ true

@@ -2,9 +2,10 @@
 use Rattle.std.specs.Prelude.{ℕ, Bool, true, if◌then◌else◌, ◌==◌, List, [], ◌∷◌, codes, bytes_eq, Option, Some, None}
 use Rattle.std.specs.List.{list_any}
 use Rattle.trace_script.specs.declared.line.Line.{Line}
-use Rattle.trace_script.specs.declared.line.Line.TheVariants.{Blank, Relay, Consumer, Commit, Feed, Poll, Show}
+use Rattle.trace_script.specs.declared.line.Line.TheVariants.{Blank, Relay, Consumer, Commit, Feed, Poll, Show, Stream}
+use Rattle.bus_types.specs.declared.limits.TheConstants.{MAX_SCN}
 use Rattle.bus_types.specs.Text.{◌>>=◌, number_of, max_u64}
-use Rattle.trace_script.specs.Words.{words_of, number_in, name_of, changes_of}
+use Rattle.trace_script.specs.Words.{words_of, number_in, name_of, selection_of, changes_of}
 
 -- `relay BYTES COUNT`
 unfoldable pub relay_of : List (List ℕ) → Option Line
@@ -16,11 +17,12 @@ relay_of [] = None
 relay_of (bytes ∷ []) = None
 relay_of (bytes ∷ count ∷ more ∷ words) = None
 
--- `consumer NAME all`
+-- `consumer NAME FILTER`
 unfoldable pub consumer_of : List (List ℕ) → Option Line
 consumer_of (name ∷ filter ∷ []) = do
   known ← name_of name
-  if bytes_eq filter (codes "all") then Some (Consumer known) else None
+  rows ← selection_of filter
+  Some (Consumer known rows)
 consumer_of [] = None
 consumer_of (name ∷ []) = None
 consumer_of (name ∷ filter ∷ more ∷ words) = None
@@ -60,12 +62,25 @@ show_of (name ∷ []) = do
 show_of [] = None
 show_of (name ∷ more ∷ words) = None
 
+-- `stream SCN FILTER MAX`
+unfoldable pub stream_of : List (List ℕ) → Option Line
+stream_of (scn ∷ filter ∷ max ∷ []) = do
+  number ← number_of MAX_SCN scn
+  most ← number_in 1 16777216 max
+  rows ← selection_of filter
+  Some (Stream number rows most)
+stream_of [] = None
+stream_of (scn ∷ []) = None
+stream_of (scn ∷ filter ∷ []) = None
+stream_of (scn ∷ filter ∷ max ∷ more ∷ words) = None
+
 -- the first word says which line it is
 unfoldable pub words_line : List (List ℕ) → Option Line
 words_line [] = None
 words_line (word ∷ words) =
     if bytes_eq word (codes "commit") then commit_of words
     else if bytes_eq word (codes "consumer") then consumer_of words
+    else if bytes_eq word (codes "stream") then stream_of words
     else if bytes_eq word (codes "feed") then feed_of words
     else if bytes_eq word (codes "poll") then poll_of words
     else if bytes_eq word (codes "show") then show_of words

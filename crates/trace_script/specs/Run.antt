@@ -1,21 +1,22 @@
 -- What a script means: the text that it prints, and how it ends.
 use Rattle.std.specs.Prelude.{◌≡◌, ◌≤◌, ℕ, ◌+◌, ◌==◌, ◌||◌, nat_lt, nat_le, if◌then◌else◌, Bool, true, false, List, [], ◌∷◌, ◌++◌, length, Option, Some, None, option_and_then}
 use Rattle.std.specs.List.{list_any, AllByRecursion}
-use Rattle.bus_types.specs.View.{everything}
-use Rattle.bus_types.specs.Script.{Consumer, State, Step, start, begin, relay_step, consumer_step, commit_step, feed_step, poll_step, show_step}
+use Rattle.bus_types.specs.Script.{Consumer, State, Step, start, begin, relay_step, consumer_step, commit_step, feed_step, poll_step, show_step, stream_step}
+use Rattle.partition_filter.specs.Selection.{test_of}
 use Rattle.trace_script.specs.declared.line.Line.{Line}
-use Rattle.trace_script.specs.declared.line.Line.TheVariants.{Blank, Relay, Consumer as NewConsumer, Commit, Feed, Poll, Show}
+use Rattle.trace_script.specs.declared.line.Line.TheVariants.{Blank, Relay, Consumer as NewConsumer, Commit, Feed, Poll, Show, Stream}
 use Rattle.trace_script.specs.Lines.{line_of}
 
 -- what a line does; a blank one does nothing, and any other begins the script
 abbrev pub line_step : State → Line → Step
 line_step s Blank = Some (s, [])
 line_step s (Relay bytes windows) = begin (relay_step s bytes windows)
-line_step s (NewConsumer name) = begin (consumer_step s name everything)
+line_step s (NewConsumer name filter) = begin (consumer_step s name (test_of filter))
 line_step s (Commit scn changes) = begin (commit_step s scn changes)
 line_step s (Feed count) = begin (feed_step s count)
 line_step s (Poll name max) = begin (poll_step s name max)
 line_step s (Show name) = begin (show_step s name)
+line_step s (Stream scn filter max) = begin (stream_step s scn (test_of filter) max)
 
 -- what a text does as a line: nothing where it is outside the grammar or against a rule
 unfoldable pub text_step : State → List ℕ → Step

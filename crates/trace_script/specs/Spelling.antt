@@ -4,9 +4,11 @@ use Rattle.std.specs.List.{list_any, AllByRecursion, join_with_byte}
 use Rattle.hex.specs.Hex.{encode_lower}
 use Rattle.bus_types.specs.declared.change.Change.{Change}
 use Rattle.bus_types.specs.Change.{AreChanges}
+use Rattle.bus_types.specs.declared.limits.TheConstants.{MAX_SCN}
 use Rattle.bus_types.specs.Script.{key_text}
+use Rattle.partition_filter.specs.Spelling.{IsFilter, filter_text}
 use Rattle.trace_script.specs.declared.line.Line.{Line}
-use Rattle.trace_script.specs.declared.line.Line.TheVariants.{Blank, Relay, Consumer, Commit, Feed, Poll, Show}
+use Rattle.trace_script.specs.declared.line.Line.TheVariants.{Blank, Relay, Consumer, Commit, Feed, Poll, Show, Stream}
 use Rattle.trace_script.specs.Words.{is_name_text}
 use Rattle.trace_script.specs.Lines.{is_blank}
 
@@ -22,11 +24,12 @@ change_text c = decimal c.source ++ codes "/" ++ key_text c.key ++ put_text c.pu
 abbrev pub line_words : Line → List (List ℕ)
 line_words Blank = []
 line_words (Relay bytes windows) = codes "relay" ∷ decimal bytes ∷ decimal windows ∷ []
-line_words (Consumer name) = codes "consumer" ∷ name ∷ codes "all" ∷ []
+line_words (Consumer name filter) = codes "consumer" ∷ name ∷ filter_text filter ∷ []
 line_words (Commit scn changes) = codes "commit" ∷ decimal scn ∷ map change_text changes
 line_words (Feed count) = codes "feed" ∷ decimal count ∷ []
 line_words (Poll name max) = codes "poll" ∷ name ∷ decimal max ∷ []
 line_words (Show name) = codes "show" ∷ name ∷ []
+line_words (Stream scn filter max) = codes "stream" ∷ decimal scn ∷ filter_text filter ∷ decimal max ∷ []
 
 -- the words with one space between two of them
 abbrev pub line_text : Line → List ℕ
@@ -51,25 +54,39 @@ IsCount count = (1 ≤ count) × (count ≤ 1000000)
 abbrev pub IsMost : ℕ → Type 0
 IsMost max = (1 ≤ max) × (max ≤ 16777216)
 
--- the names and numbers of a line are in the ranges of the grammar
+-- the names, numbers and filters of a line are in the ranges of the grammar
 abbrev pub IsLine : Line → Type 0
 IsLine Blank = Unit {0}
 IsLine (Relay bytes windows) = IsRoom bytes windows
-IsLine (Consumer name) = IsName name
+IsLine (Consumer name filter) = IsName name × IsFilter filter
 IsLine (Commit scn changes) = (scn < 2 ^ 64) × (0 < length changes) × AreChanges changes × AllByRecursion (λ c. AreBytesOf c.put) changes
 IsLine (Feed count) = IsCount count
 IsLine (Poll name max) = IsName name × IsMost max
 IsLine (Show name) = IsName name
+IsLine (Stream scn filter max) = (scn ≤ MAX_SCN) × IsFilter filter × IsMost max
 
 -- the numbers of a line are in the ranges of the grammar, where these are narrower than those of their types
 abbrev pub IsInRange : Line → Type 0
 IsInRange Blank = Unit {0}
 IsInRange (Relay bytes windows) = IsRoom bytes windows
-IsInRange (Consumer name) = Unit {0}
+IsInRange (Consumer name filter) = Unit {0}
 IsInRange (Commit scn changes) = 0 < length changes
 IsInRange (Feed count) = IsCount count
 IsInRange (Poll name max) = IsMost max
 IsInRange (Show name) = Unit {0}
+IsInRange (Stream scn filter max) = (scn ≤ MAX_SCN) × IsMost max
+
+-- the text of its filter, where it has one
+abbrev pub filter_part : Line → List ℕ
+filter_part (Consumer name filter) = filter_text filter
+filter_part (Stream scn filter max) = filter_text filter
+filter_part line = []
+
+-- its filter, where it has one, is in the ranges of the grammar
+abbrev pub IsFiltered : Line → Type 0
+IsFiltered (Consumer name filter) = IsFilter filter
+IsFiltered (Stream scn filter max) = IsFilter filter
+IsFiltered line = Unit {0}
 
 -- a blank line is empty or a comment, and any other line is its words
 abbrev pub Spells : List ℕ → Line → Type 0

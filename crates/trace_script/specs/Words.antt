@@ -1,4 +1,4 @@
--- The words of a line: numbers, names, changes.
+-- The words of a line: numbers, names, filters, changes.
 use Rattle.std.specs.Prelude.{ℕ, Bool, if◌then◌else◌, ◌==◌, ◌||◌, ◌&&◌, nat_le, List, [], ◌∷◌, length, Option, Some, None, option_map}
 use Rattle.std.specs.Result.{result_ok}
 use Rattle.std.specs.List.{list_all, slice_split}
@@ -8,6 +8,8 @@ use Rattle.bus_types.specs.declared.change.Key.TheVariants.{Long}
 use Rattle.bus_types.specs.declared.change.Change.{Change}
 use Rattle.bus_types.specs.declared.limits.TheConstants.{MAX_PAYLOAD}
 use Rattle.bus_types.specs.Text.{◌>>=◌, cut_at, is_digit, number_of, max_u64}
+use Rattle.partition_filter.specs.Selection.{Selection}
+use Rattle.partition_filter.specs.Grammar.{filter_of}
 
 -- the parts between spaces; two spaces in a row, or one at an end, leave an empty part, which is no word
 abbrev pub words_of : List ℕ → List (List ℕ)
@@ -29,6 +31,11 @@ is_name_text bytes = nat_le 1 (length bytes) && nat_le (length bytes) 16 && list
 
 unfoldable pub name_of : List ℕ → Option (List ℕ)
 name_of bytes = if is_name_text bytes then Some bytes else None
+
+-- ---- filters
+
+abbrev pub selection_of : List ℕ → Option Selection
+selection_of word = result_ok (filter_of word)
 
 -- ---- changes
 

@@ -1,5 +1,6 @@
 use crate::name::Name;
 use bus_types::Changes;
+use partition_filter::Filter;
 
 /// A line of a script.
 #[derive(Debug, Drop)]
@@ -13,10 +14,12 @@ pub enum Line {
         /// The most windows, 1 to 65,536.
         windows: u32,
     },
-    /// `consumer NAME all`: a new consumer that follows every row.
+    /// `consumer NAME FILTER`: a new consumer.
     Consumer {
         /// Its name, which no consumer has yet.
         name: Name,
+        /// Which rows it follows.
+        filter: Filter,
     },
     /// `commit SCN CHANGE ..`: the source commits a window of at least one change.
     Commit {
@@ -36,4 +39,13 @@ pub enum Line {
     },
     /// `show NAME`: prints a consumer's SCN and rows.
     Show(Name),
+    /// `stream SCN FILTER MAX`: asks the relay for the next windows, without a consumer.
+    Stream {
+        /// The SCN behind which they are, 0 to 9,223,372,036,854,775,807.
+        scn: u64,
+        /// Which rows are asked for.
+        filter: Filter,
+        /// The most bytes that the reply may have, 1 to 16,777,216.
+        max: u32,
+    },
 }

@@ -3,14 +3,15 @@ ghost use Rattle.std.specs.List.{list_any};
 ghost use Rattle.trace_script.specs.Reading.{Reads};
 ghost use Rattle.trace_script.specs.declared.line.Line.{Line};
 ghost use Rattle.trace_script.specs.Spelling.{Spells};
-ghost use Rattle.trace_script.specs.Words.{words_of, number_in, name_of};
-ghost use Rattle.trace_script.specs.Lines.{is_blank, relay_of, consumer_of, commit_of, feed_of, poll_of, show_of, words_line, line_of};
+ghost use Rattle.trace_script.specs.Words.{words_of, number_in, name_of, selection_of};
+ghost use Rattle.trace_script.specs.Lines.{is_blank, relay_of, consumer_of, commit_of, feed_of, poll_of, show_of, stream_of, words_line, line_of};
 
 use crate::change::changes;
 use crate::fault::LineFault;
 use crate::line::Line;
 use crate::name::Name;
-use bus_types::{Changes, read_number};
+use bus_types::{Changes, MAX_SCN, read_number};
+use partition_filter::{Filter, FilterFault};
 use std::alloc::{AllocError, Global};
 
 /// The least bytes of windows that a relay is told to hold.
@@ -98,7 +99,10 @@ fn words_line(alloc: Global, words: &[&[u8]]) -> Result<Line, LineFault>
         return commit(alloc, words);
     }
     if *word == b"consumer".as_slice() {
-        return consumer(words).ok_or(LineFault::BadLine);
+        return consumer(alloc, words);
+    }
+    if *word == b"stream".as_slice() {
+        return stream(alloc, words);
     }
     plain_line(word, words).ok_or(LineFault::BadLine)
 }
@@ -108,6 +112,7 @@ fn words_line(alloc: Global, words: &[&[u8]]) -> Result<Line, LineFault>
 fn plain_line(word: &[u8], words: &[&[u8]]) -> Option<Line>
     requires commit { bytes_eq word.now (codes "commit") ≡ false }
     requires consumer { bytes_eq word.now (codes "consumer") ≡ false }
+    requires stream { bytes_eq word.now (codes "stream") ≡ false }
     ensures { result ≡ words_line (word.now ∷ map (λ word. word.now) words.now) }
 {
     if word == b"feed".as_slice() {
@@ -155,20 +160,17 @@ fn relay(words: &[&[u8]]) -> Option<Line>
     })
 }
 
-/// `consumer NAME all`
+/// `consumer NAME FILTER`
 #[tactic(auto, unfolding(crate::specs::Lines::consumer_of))]
-fn consumer(words: &[&[u8]]) -> Option<Line>
-    ensures { result ≡ consumer_of (map (λ word. word.now) words.now) }
+fn consumer(alloc: Global, words: &[&[u8]]) -> Result<Line, LineFault>
+    ensures { Reads (λ line. line) result (consumer_of (map (λ word. word.now) words.now)) }
 {
     let [name, filter] = words else {
-        return None;
+        return Err(LineFault::BadLine);
     };
-    let name = known_name(name)?;
-    if *filter == b"all".as_slice() {
-        Some(Line::Consumer { name })
-    } else {
-        None
-    }
+    let name = known_name(name).ok_or(LineFault::BadLine)?;
+    let filter = selection(alloc, filter)?;
+    Ok(Line::Consumer { name, filter })
 }
 
 /// `feed N`
@@ -191,11 +193,8 @@ fn poll(words: &[&[u8]]) -> Option<Line>
         return None;
     };
     let name = known_name(name)?;
-    let max = number_in(max, 1, MAX_REPLY)?;
-    Some(Line::Poll {
-        name,
-        max: max as u32,
-    })
+    let max = reply_size(max)?;
+    Some(Line::Poll { name, max })
 }
 
 /// `show NAME`
@@ -207,6 +206,39 @@ fn show(words: &[&[u8]]) -> Option<Line>
         return None;
     };
     Some(Line::Show(known_name(name)?))
+}
+
+/// `stream SCN FILTER MAX`
+#[tactic(auto, unfolding(crate::specs::Lines::stream_of))]
+fn stream(alloc: Global, words: &[&[u8]]) -> Result<Line, LineFault>
+    ensures { Reads (λ line. line) result (stream_of (map (λ word. word.now) words.now)) }
+{
+    let [scn, filter, max] = words else {
+        return Err(LineFault::BadLine);
+    };
+    let scn = read_number(scn, MAX_SCN).ok_or(LineFault::BadLine)?;
+    let max = reply_size(max).ok_or(LineFault::BadLine)?;
+    let filter = selection(alloc, filter)?;
+    Ok(Line::Stream { scn, filter, max })
+}
+
+/// The filter that a word spells.
+fn selection(alloc: Global, word: &[u8]) -> Result<Filter, LineFault>
+    ensures { Reads (λ filter. filter) result (selection_of word.now) }
+{
+    match Filter::read_bytes(alloc, word) {
+        Ok(filter) => Ok(filter),
+        Err(FilterFault::NoMemory) => Err(LineFault::NoMemory),
+        Err(FilterFault::BadFilter { .. }) => Err(LineFault::BadLine),
+    }
+}
+
+/// The most bytes of a reply.
+fn reply_size(word: &[u8]) -> Option<u32>
+    ensures { result ≡ number_in 1 16777216 word.now }
+{
+    let max = number_in(word, 1, MAX_REPLY)?;
+    Some(max as u32)
 }
 
 #[tactic(auto, unfolding(crate::specs::Words::name_of))]

@@ -38,6 +38,16 @@ pub fn worked_scripts_of_a_relay()
         ≡ record { text = codes ""; ending = BadAt 1 } }
 {}
 
+/// What some scripts of streams and filters mean, by computation from the definitions alone.
+pub fn worked_scripts_of_streams()
+    ensures from_each_place { script (codes "relay 1048576 2\ncommit 10 0/1=aa\ncommit 20 0/2=bb\ncommit 30 0/3=cc\nfeed 3\nstream 9 all 1000\nstream 10 all 1000\nstream 15 all 1000\nstream 30 all 1000\nstream 99 all 1000\n")
+        ≡ record { text = codes "relay 10 30\nnotfound 10\nserved 2 82 last 30\nserved 2 82 last 30\nempty 30\nempty 30\n"; ending = Finished } }
+    ensures too_small { script (codes "consumer c all\ncommit 10 0/1=aa\nfeed 1\nstream 0 all 40\npoll c 40\nstream 0 all 41\n")
+        ≡ record { text = codes "relay 0 10\nsmall 41\nsmall 41\nserved 1 41 last 10\n"; ending = Finished } }
+    ensures filtered { script (codes "consumer c 0%2:1\ncommit 10 0/2=aa 0/4=bb\nfeed 1\npoll c 17\nshow c\n")
+        ≡ record { text = codes "relay 0 10\nserved 1 17 online 10\nshow c online 10 0\n"; ending = Finished } }
+{}
+
 /// What a script means of which one reply can't have all windows, by computation from the definitions alone.
 pub fn worked_script_of_many_windows()
     ensures { script (codes "consumer c all\n" ++ flat_map (λ scn. codes "commit " ++ decimal scn ++ codes " 0/1=aa\n") (range_with_len 1 33) ++ codes "feed 33\npoll c 16777216\npoll c 16777216\n")

@@ -3,6 +3,7 @@ ghost use Rattle.trace_script.specs.Spelling.{IsInRange};
 
 use super::*;
 use bus_types::{Change, Changes, Key, NoMemory, Payload};
+use partition_filter::Filter;
 use std::alloc::{AllocError, Global};
 use std::test::*;
 
@@ -13,13 +14,16 @@ fn says(line: &Result<Line, LineFault>, kind: &str, text: &[u8], number: u64) ->
         Ok(Line::Relay { bytes, windows }) => {
             kind == "relay" && *bytes == number && u64::from(*windows) == number / 65536
         }
-        Ok(Line::Consumer { name }) => kind == "consumer" && name.bytes() == text,
+        Ok(Line::Consumer { name, .. }) => kind == "consumer" && name.bytes() == text,
         Ok(Line::Commit { scn, .. }) => kind == "commit" && *scn == number,
         Ok(Line::Feed(count)) => kind == "feed" && *count == number,
         Ok(Line::Poll { name, max }) => {
             kind == "poll" && name.bytes() == text && u64::from(*max) == number
         }
         Ok(Line::Show(name)) => kind == "show" && name.bytes() == text,
+        Ok(Line::Stream { scn, max, .. }) => {
+            kind == "stream" && *scn == number && (*max == 1 || *max == 16_777_216)
+        }
         Err(_) => false,
     }
 }
@@ -53,6 +57,7 @@ fn each_kind_of_line_is_read(rt: HostRuntime) {
         (b"relay 1048576 16", "relay", b"", 1_048_576),
         (b"relay 268435456 4096", "relay", b"", 268_435_456),
         (b"consumer c1 all", "consumer", b"c1", 0),
+        (b"consumer c1 0*;1/1000:7", "consumer", b"c1", 0),
         (b"commit 7 1/2=00ff", "commit", b"", 7),
         (b"commit 0 0/0-", "commit", b"", 0),
         (
@@ -66,6 +71,13 @@ fn each_kind_of_line_is_read(rt: HostRuntime) {
         (b"poll abcdefghijklmnop 1", "poll", b"abcdefghijklmnop", 1),
         (b"poll 0_z 16777216", "poll", b"0_z", 16_777_216),
         (b"show all", "show", b"all", 0),
+        (b"stream 0 all 1", "stream", b"", 0),
+        (
+            b"stream 9223372036854775807 0%2:1;7* 16777216",
+            "stream",
+            b"",
+            9_223_372_036_854_775_807,
+        ),
     ] {
         let line = read_line(rt.alloc(), text);
         assert!(rt; says(&line, kind, name, number));
@@ -144,6 +156,16 @@ fn other_texts_are_bad(rt: HostRuntime) {
         b"consumer c",
         b"consumer c some",
         b"consumer c all all",
+        b"consumer c 0%2:2",
+        b"consumer c 1*;1*",
+        b"consumer C all",
+        b"stream 1 all",
+        b"stream 1 all 0",
+        b"stream 1 all 16777217",
+        b"stream 9223372036854775808 all 1",
+        b"stream 01 all 1",
+        b"stream 1 0 1",
+        b"stream 1 all 1 1",
     ] {
         let line = read_line(rt.alloc(), text);
         assert!(rt; matches!(line, Err(LineFault::BadLine)), "{text:?}");
@@ -215,7 +237,13 @@ fn a_line_is_written_behind_what_was_there(rt: HostRuntime) -> Result<(), Fail> 
             b"> relay 1048576 1",
         ),
         (
-            written(alloc, &Line::Consumer { name }),
+            written(
+                alloc,
+                &Line::Consumer {
+                    name,
+                    filter: Filter::everything(),
+                },
+            ),
             b"> consumer c1 all",
         ),
         (
@@ -225,6 +253,17 @@ fn a_line_is_written_behind_what_was_there(rt: HostRuntime) -> Result<(), Fail> 
         (written(alloc, &Line::Feed(1_000_000)), b"> feed 1000000"),
         (written(alloc, &Line::Poll { name, max: 1 }), b"> poll c1 1"),
         (written(alloc, &Line::Show(name)), b"> show c1"),
+        (
+            written(
+                alloc,
+                &Line::Stream {
+                    scn: 7,
+                    filter: Filter::everything(),
+                    max: 1,
+                },
+            ),
+            b"> stream 7 all 1",
+        ),
     ] {
         assert_eq!(rt; written?.as_slice(), text);
     }
@@ -245,10 +284,13 @@ fn each_kind_of_line_is_written_as_it_was_read(rt: HostRuntime) -> Result<(), Fa
         b"".as_slice(),
         b"relay 268435456 65536",
         b"consumer abcdefghijklmnop all",
+        b"consumer c 0*;1%16:0,3;2/1000:7",
         b"commit 18446744073709551615 1/2= 1/2- 0/0=00",
         b"feed 1",
         b"poll 0_z 16777216",
         b"show all",
+        b"stream 9223372036854775807 all 16777216",
+        b"stream 0 65535* 1",
     ] {
         let again = written_again(rt.alloc(), text).ok().ok_or("a line")?;
         assert_eq!(rt; again.as_slice(), text);

@@ -1,20 +1,24 @@
-ghost use Rattle.std.specs.Prelude.{◌≡◌, ◌<◌, ◌≤◌, ◌∷◌, ◌++◌, length, codes, decimal, flat_map, Some, OnOk, OnErr};
+ghost use Rattle.std.specs.Prelude.{◌≡◌, ◌<◌, ◌≤◌, ◌∷◌, ◌++◌, length, codes, decimal, flat_map, Some, IfOk, OnOk, OnErr, string_bytes};
 ghost use Rattle.std.specs.List.{AllByRecursion};
 ghost use Rattle.hex.specs.Hex.{encode_lower};
 ghost use Rattle.bus_types.specs.Change.{IsChange, AreChanges};
 ghost use Rattle.bus_types.specs.Script.{key_text};
 ghost use Rattle.bus_types.specs.declared.limits.TheConstants.{MAX_PAYLOAD};
 ghost use Rattle.trace_script.specs.Lines.{line_of};
-ghost use Rattle.trace_script.specs.Spelling.{AreBytesOf, change_text, line_text, IsLine, IsInRange, Spells};
+ghost use Rattle.trace_script.specs.Spelling.{AreBytesOf, change_text, filter_part, line_text, IsFiltered, IsLine, IsInRange, Spells};
 ghost use Rattle.bus_types.specs.Text.{Appends};
+ghost use Rattle.partition_filter.specs.Spelling.{IsFilter, filter_text};
 
 use crate::line::Line;
 use crate::name::Name;
 use bus_types::{Change, Key, NoMemory};
 use itoa::Buffer;
+use partition_filter::Filter;
+use std::alloc::Global;
 
 /// Appends the text of a line, without a LF; a blank line is the empty text. What is written is read back as the
 /// same line. After want of memory the output is as before.
+#[tactic(auto, using(crate::proofs::WrittenTexts::read_back))]
 pub fn write_line(line: &Line, out: &mut Vec<u8>) -> Result<(), NoMemory>
     requires { IsInRange line.now }
     ensures ok { OnOk result (out.new.items ≡ out.old.items ++ line_text line.now) }
@@ -22,25 +26,50 @@ pub fn write_line(line: &Line, out: &mut Vec<u8>) -> Result<(), NoMemory>
     ensures read_back { line_of (line_text line.now) ≡ Some line.now }
     ensures err { OnErr result (out.new.items ≡ out.old.items) }
 {
-    out.reserve(room_for(line))?;
+    let filter = write_filter(line, *out.allocator());
+    // What it counts is read back, also where there was no memory for the filter's text.
+    let room = room_for(line);
+    let filter = filter?;
+    out.reserve(room.saturating_add(filter.len()))?;
     let before = out.len();
-    let Ok(()) = append_line(line, out) else {
+    let Ok(()) = append_line(line, filter.as_bytes(), out) else {
         out.truncate(before);
         return Err(NoMemory);
     };
     Ok(())
 }
 
-/// At least as many bytes as the text of the line takes. It reads the whole line, and so shows that the line's
-/// numbers, names and payloads are in their ranges.
+/// The text of the line's filter, or no text where it has none.
+fn write_filter(line: &Line, alloc: Global) -> Result<String, NoMemory>
+    ensures within { IsFiltered line.now }
+    ensures text { IfOk result (λ text. string_bytes text ≡ filter_part line.now) }
+{
+    match line {
+        Line::Consumer { filter, .. } => filter_text(filter, alloc),
+        Line::Stream { filter, .. } => filter_text(filter, alloc),
+        _ => Ok(String::new(alloc)),
+    }
+}
+
+/// The text of a filter, which shows that the filter is in its ranges.
+fn filter_text(filter: &Filter, alloc: Global) -> Result<String, NoMemory>
+    ensures within { IsFilter filter.now }
+    ensures text { IfOk result (λ text. string_bytes text ≡ filter_text filter.now) }
+{
+    filter.write(alloc)
+}
+
+/// At least as many bytes as the text of the line takes without its filter. It reads the whole line but its filter, and
+/// so shows that the line's numbers, names and payloads are in their ranges.
 fn room_for(line: &Line) -> usize
-    requires { IsInRange line.now }
+    requires range { IsInRange line.now }
+    requires filter { IsFiltered line.now }
     ensures { IsLine line.now }
 {
     match line {
         Line::Blank => 0,
-        Line::Relay { .. } => 22,
-        Line::Consumer { name } => 13 + name.bytes().len(),
+        Line::Relay { .. } => 21,
+        Line::Consumer { name, .. } => 10 + name.bytes().len(),
         Line::Commit { scn, changes } => {
             let _scn = *scn;
             room_for_changes(changes.items()).saturating_add(27)
@@ -48,6 +77,7 @@ fn room_for(line: &Line) -> usize
         Line::Feed(_) => 12,
         Line::Poll { name, .. } => 14 + name.bytes().len(),
         Line::Show(name) => 5 + name.bytes().len(),
+        Line::Stream { .. } => 36,
     }
 }
 
@@ -82,17 +112,19 @@ fn count(bytes: &[u8]) -> usize
     bytes.len()
 }
 
-fn append_line(line: &Line, out: &mut Vec<u8>) -> Result<(), NoMemory>
+fn append_line(line: &Line, filter: &[u8], out: &mut Vec<u8>) -> Result<(), NoMemory>
+    requires { filter.now ≡ filter_part line.now }
     ensures { Appends result (line_text line.now) out.old.items out.new.items }
 {
     match line {
         Line::Blank => Ok(()),
         Line::Relay { bytes, windows } => append_relay(*bytes, *windows, out),
-        Line::Consumer { name } => append_consumer(name, out),
+        Line::Consumer { name, .. } => append_consumer(name, filter, out),
         Line::Commit { scn, changes } => append_commit(*scn, changes.items(), out),
         Line::Feed(count) => append_feed(*count, out),
         Line::Poll { name, max } => append_poll(name, *max, out),
         Line::Show(name) => append_show(name, out),
+        Line::Stream { scn, max, .. } => append_stream(*scn, filter, *max, out),
     }
 }
 
@@ -106,13 +138,14 @@ fn append_relay(bytes: u64, windows: u32, out: &mut Vec<u8>) -> Result<(), NoMem
     append_number(u64::from(windows), out)
 }
 
-/// `consumer NAME all`
-fn append_consumer(name: &Name, out: &mut Vec<u8>) -> Result<(), NoMemory>
-    ensures { Appends result (codes "consumer " ++ name.now ++ codes " all") out.old.items out.new.items }
+/// `consumer NAME FILTER`
+fn append_consumer(name: &Name, filter: &[u8], out: &mut Vec<u8>) -> Result<(), NoMemory>
+    ensures { Appends result (codes "consumer " ++ name.now ++ codes " " ++ filter.now) out.old.items out.new.items }
 {
     out.extend_from_slice(b"consumer ")?;
     out.extend_from_slice(name.bytes())?;
-    out.extend_from_slice(b" all")?;
+    out.extend_from_slice(b" ")?;
+    out.extend_from_slice(filter)?;
     Ok(())
 }
 
@@ -143,14 +176,33 @@ fn append_show(name: &Name, out: &mut Vec<u8>) -> Result<(), NoMemory>
     Ok(())
 }
 
+/// `stream SCN FILTER MAX`
+fn append_stream(scn: u64, filter: &[u8], max: u32, out: &mut Vec<u8>) -> Result<(), NoMemory>
+    ensures { Appends result (codes "stream " ++ decimal scn ++ codes " " ++ filter.now ++ codes " " ++ decimal max) out.old.items out.new.items }
+{
+    out.extend_from_slice(b"stream ")?;
+    append_number(scn, out)?;
+    out.extend_from_slice(b" ")?;
+    out.extend_from_slice(filter)?;
+    out.extend_from_slice(b" ")?;
+    append_number(u64::from(max), out)
+}
+
 /// `commit SCN CHANGE ..`
 #[tactic(auto, using(crate::proofs::WrittenTexts::appending))]
 fn append_commit(scn: u64, changes: &[Change], out: &mut Vec<u8>) -> Result<(), NoMemory>
     ensures { Appends result (codes "commit " ++ decimal scn ++ flat_map (λ c. 32 ∷ change_text c) changes.now) out.old.items out.new.items }
 {
-    out.extend_from_slice(b"commit ")?;
-    append_number(scn, out)?;
+    append_commit_scn(scn, out)?;
     append_changes(changes, out)
+}
+
+/// `commit SCN`
+fn append_commit_scn(scn: u64, out: &mut Vec<u8>) -> Result<(), NoMemory>
+    ensures { Appends result (codes "commit " ++ decimal scn) out.old.items out.new.items }
+{
+    out.extend_from_slice(b"commit ")?;
+    append_number(scn, out)
 }
 
 /// Each change, a space before it.
