@@ -8,3 +8,4 @@ pub mod Runs
 pub mod Options
 pub mod Numbers
 pub mod Cuts
+pub mod Feeding

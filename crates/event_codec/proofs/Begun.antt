@@ -41,7 +41,7 @@ pub changes_length : (n : ℕ) (cs : List Change) → length (changes_bytes n cs
 changes_length n [] = refl
 changes_length n (c ∷ cs) = omega (arith, length-append (event_bytes (event n c)) (changes_bytes n cs), event_length (event n c), changes_length n cs)
 
-are_changes_push : (cs : List Change) (c : Change) → AreChanges cs → IsChange c → AreChanges (cs ++ c ∷ [])
+pub are_changes_push : (cs : List Change) (c : Change) → AreChanges cs → IsChange c → AreChanges (cs ++ c ∷ [])
 are_changes_push [] c are is = (is, tt)
 are_changes_push (d ∷ cs) c are is = (are.0, are_changes_push cs c are.1 is)
 
@@ -57,7 +57,7 @@ open_scn-push : (n : ℕ) (cs : List Change) (c : Change) → (open_of n (cs ++ 
 open_scn-push n [] c = refl
 open_scn-push n (d ∷ cs) c = refl
 
-open-push : (n : ℕ) (cs : List Change) (c : Change) → record { scn = Some n; count = length cs + 1; size = changes_size cs + change_size c } ≡ open_of n (cs ++ c ∷ [])
+pub open-push : (n : ℕ) (cs : List Change) (c : Change) → record { scn = Some n; count = length cs + 1; size = changes_size cs + change_size c } ≡ open_of n (cs ++ c ∷ [])
 open-push n cs c =
     let scn = sym (open_scn-push n cs c) in
     let count : length cs + 1 ≡ (open_of n (cs ++ c ∷ [])).count = omega (arith, open_count n (cs ++ c ∷ []), length-append cs (c ∷ [])) in

@@ -70,13 +70,12 @@ event_front_is : (s : Since) (o : Open) (kind : ℕ) (rest : List ℕ) → event
 event_front_is s o kind rest = refl
 
 -- as the code reads it
-pub event_found : (s : Since) (o : Open) (kind : ℕ) (rest : List ℕ) (number size : ℕ) (behind : List ℕ) → IsEventNumbers rest number size behind → event_stands s o kind number size ≡ true → size ≤ length behind
-    → Shows (items.Event number (23 + size)) (event_front s o kind rest)
-event_found s o kind rest number size behind numbers stands fits =
-    let at : event_front s o kind rest ≡ seen s o kind (source_at rest) number (key_at rest) size (length rest) (drop 22 rest) =
-    ap (λ n. seen s o kind (source_at rest) n (key_at rest) (len_at rest) (length rest) (drop 22 rest)) (sym numbers.scn)
-    ∙ ap (λ m. seen s o kind (source_at rest) number (key_at rest) m (length rest) (drop 22 rest)) (sym numbers.len) in
-    (change_at kind (source_at rest) (key_at rest) size (drop 22 rest), at ∙ seen_event s o kind (source_at rest) number (key_at rest) size (length rest) (drop 22 rest) (omega (arith, numbers.payload)) stands)
+pub event_found : (s : Since) (o : Open) (kind : ℕ) (rest : List ℕ) (from number id size : ℕ) (behind : List ℕ) → IsEventNumbers rest from number id size behind → event_stands s o kind number size ≡ true → size ≤ length behind
+    → Shows (items.Event number from id (23 + size)) (event_front s o kind rest)
+event_found s o kind rest from number id size behind numbers stands fits =
+    let at : event_front s o kind rest ≡ seen s o kind from number id size (length rest) (drop 22 rest) =
+    (λ i. seen s o kind (sym numbers.source i) (sym numbers.scn i) (sym numbers.key i) (sym numbers.len i) (length rest) (drop 22 rest)) in
+    ((change_at kind from id size (drop 22 rest)).put, at ∙ seen_event s o kind from number id size (length rest) (drop 22 rest) (omega (arith, numbers.payload)) stands)
 
 -- what the tests of an event's numbers say
 pub record CanStand (s : Since) (o : Open) (kind n len : ℕ) : Type 0 where

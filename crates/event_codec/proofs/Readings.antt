@@ -55,11 +55,11 @@ no_mark_stops n p unfinished e = absurd cc
 no_mark_stops n p refused e = absurd cc
 
 -- the SCN of the window is the right one behind its first changes
-right_of : (s : Since) (n k : ℕ) (cs : List Change) → s.floor < k → (0 < length cs → n ≡ k) → has_right_scn s (open_of n cs).scn k ≡ true
+pub right_of : (s : Since) (n k : ℕ) (cs : List Change) → s.floor < k → (0 < length cs → n ≡ k) → has_right_scn s (open_of n cs).scn k ≡ true
 right_of s n k [] above same = lt-ltb s.floor k above
 right_of s n k (c ∷ cs) above same = eq-eqb k n (sym (same (omega arith)))
 
-changes_after : (cs ds : List Change) → AreChanges (cs ++ ds) → AreChanges ds
+pub changes_after : (cs ds : List Change) → AreChanges (cs ++ ds) → AreChanges ds
 changes_after [] ds are = are
 changes_after (c ∷ cs) ds are = changes_after cs ds are.1
 

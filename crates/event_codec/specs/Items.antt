@@ -93,7 +93,7 @@ open_in e = record { scn = e.scn; count = e.count; size = e.size }
 abbrev pub Shows : Item → Front → Type 0
 Shows items.Unfinished front = front ≡ Unfinished
 Shows items.Refused front = front ≡ Refused
-Shows (items.Event scn size) front = (c : Change) × (front ≡ AnEvent scn c size)
+Shows (items.Event scn source key size) front = (put : Option (List ℕ)) × (front ≡ AnEvent scn (record { source = source; key = Long key; put = put }) size)
 Shows (items.Mark scn prev) front = front ≡ AMark scn prev
 
 -- the window has room for an event with so long a payload, and for its mark
@@ -104,10 +104,12 @@ has_room o len = nat_lt o.count MAX_CHANGES && nat_le (o.size + 23 + len + 17) M
 abbrev pub is_in_range : ℕ → ℕ → ℕ → Bool
 is_in_range kind scn len = nat_lt 0 scn && nat_le scn MAX_SCN && nat_le len MAX_PAYLOAD && (kind == 1 || len == 0)
 
--- the SCN, the length and the bytes from the payload on, of an event behind its kind
-pub record IsEventNumbers (bytes : List ℕ) (number size : ℕ) (behind : List ℕ) : Type 0 where
+-- the source, the SCN, the key, the length and the bytes from the payload on, of an event behind its kind
+pub record IsEventNumbers (bytes : List ℕ) (from number id size : ℕ) (behind : List ℕ) : Type 0 where
   pub long : 22 ≤ length bytes
+  pub source : from ≡ from_be_bytes w16 (take 2 bytes)
   pub scn : number ≡ from_be_bytes w64 (take 8 (drop 2 bytes))
+  pub key : id ≡ from_be_bytes w64 (take 8 (drop 10 bytes))
   pub len : size ≡ from_be_bytes w32 (take 4 (drop 18 bytes))
   pub payload : length behind + 22 ≡ length bytes
 

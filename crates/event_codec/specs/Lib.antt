@@ -7,3 +7,4 @@ pub mod Head
 pub mod Frames
 pub mod Items
 pub mod Streams
+pub mod Reply

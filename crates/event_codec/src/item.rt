@@ -43,10 +43,18 @@ pub enum Item {
     Unfinished,
     /// A complete head that can't stand.
     Refused,
-    /// A whole event that can stand: the SCN of its window, and its bytes with its payload.
-    Event { scn: u64, size: usize },
+    /// A whole event that can stand: the SCN of its window, its row's source and key, and its bytes with its payload.
+    Event {
+        scn: u64,
+        source: u16,
+        key: u64,
+        size: usize,
+    },
     /// A whole mark that can stand: the SCN of its window, and the SCN of the window before it or 0. It takes 17 bytes.
-    Mark { scn: u64, prev: u64 },
+    Mark {
+        scn: u64,
+        prev: u64,
+    },
 }
 
 // Whether an item of this SCN can stand in a window whose first event has that one, if it has any.
@@ -105,15 +113,21 @@ fn mark_stands(follows: Follows, events: Events, scn: u64, prev: u64) -> bool
         && has_right_prev(follows, prev)
 }
 
-// Of an event behind its kind: the SCN, the length of the payload, and the bytes from the payload on.
-fn event_numbers(bytes: &[u8]) -> Option<(u64, u32, &[u8])>
-    ensures { MatchOption result (length bytes.now < 22) (λ x. IsEventNumbers bytes.now x.0 x.1 x.2.now) }
+// Of an event behind its kind: the source, the SCN, the key, the length of the payload, and the bytes from the payload on.
+fn event_numbers(bytes: &[u8]) -> Option<(u16, u64, u64, u32, &[u8])>
+    ensures { MatchOption result (length bytes.now < 22) (λ x. IsEventNumbers bytes.now x.0 x.1 x.2 x.3 x.4.now) }
 {
-    let (_source, bytes) = bytes.split_first_chunk::<2>()?;
+    let (source, bytes) = bytes.split_first_chunk::<2>()?;
     let (scn, bytes) = bytes.split_first_chunk::<8>()?;
-    let (_key, bytes) = bytes.split_first_chunk::<8>()?;
+    let (key, bytes) = bytes.split_first_chunk::<8>()?;
     let (len, bytes) = bytes.split_first_chunk::<4>()?;
-    Some((u64::from_be_bytes(*scn), u32::from_be_bytes(*len), bytes))
+    Some((
+        u16::from_be_bytes(*source),
+        u64::from_be_bytes(*scn),
+        u64::from_be_bytes(*key),
+        u32::from_be_bytes(*len),
+        bytes,
+    ))
 }
 
 // Of a mark behind its kind: the SCN, and the SCN before it.
@@ -130,7 +144,7 @@ fn event_front(follows: Follows, events: Events, kind: u8, bytes: &[u8]) -> Item
     requires { events.size ≤ MAX_WINDOW }
     ensures { Shows result (event_front (since_of follows) (open_in events) kind bytes.now) }
 {
-    let Some((scn, len, payload)) = event_numbers(bytes) else {
+    let Some((source, scn, key, len, payload)) = event_numbers(bytes) else {
         return Item::Unfinished;
     };
     if !event_stands(follows, events, kind, scn, len) {
@@ -142,6 +156,8 @@ fn event_front(follows: Follows, events: Events, kind: u8, bytes: &[u8]) -> Item
     }
     Item::Event {
         scn,
+        source,
+        key,
         size: HEAD_SIZE + len,
     }
 }

@@ -175,3 +175,82 @@ fn a_mark_is_above_the_one_before(rt: HostRuntime) {
         );
     }
 }
+
+#[test]
+fn heads_and_marks_are_spelled_as_in_windows(rt: HostRuntime) -> Result<(), Fail> {
+    let (put, delete) = (puts(rt.alloc(), 1, None), delete(rt.alloc()));
+    for change in put.ok_or("puts")?.changes() {
+        assert_eq!(rt; event_head(10, change).as_slice(), &PUT[..23]);
+    }
+    for change in delete.ok_or("delete")?.changes() {
+        assert_eq!(rt; event_head(258, change).as_slice(), &DELETE[..23]);
+    }
+    assert_eq!(rt; mark_bytes(258, 257).as_slice(), &DELETE[23..]);
+    Ok(())
+}
+
+#[test]
+fn closing_frames_say_whether_an_item_is_left(rt: HostRuntime) {
+    assert_eq!(rt; close_bytes(4, 258, true), [4, 0, 0, 0, 0, 0, 0, 1, 2, 1]);
+    assert_eq!(rt; close_bytes(5, 0, false), [5, 0, 0, 0, 0, 0, 0, 0, 0, 0]);
+}
+
+#[test]
+fn each_answer_has_its_kind(rt: HostRuntime) -> Result<(), Fail> {
+    for (kind, want) in [
+        (0x20u8, Answer::NotFound(258)),
+        (0x21, Answer::Empty(258)),
+        (0x22, Answer::TooSmall(258)),
+        (0x23, Answer::Behind(258)),
+        (0x24, Answer::LogGone(258)),
+        (0x25, Answer::StartDelta(258)),
+        (0x26, Answer::StartSnapshot(258)),
+        (0x27, Answer::Target(258)),
+    ] {
+        let bytes = [kind, 0, 0, 0, 0, 0, 0, 1, 2];
+        let answer = answer_at(&bytes, 0).ok_or("an answer")?;
+        assert_eq!(rt; (answer, answer_bytes(&answer)), (want, bytes));
+    }
+    Ok(())
+}
+
+#[test]
+fn what_is_no_whole_answer_is_none(rt: HostRuntime) {
+    for bytes in [
+        [0x1f, 0, 0, 0, 0, 0, 0, 1, 2],
+        [0x28, 0, 0, 0, 0, 0, 0, 1, 2],
+        [0x20, 0x80, 0, 0, 0, 0, 0, 0, 0],
+    ] {
+        assert_eq!(rt; answer_at(&bytes, 0), None);
+    }
+    assert_eq!(rt; answer_at(&[0x20, 0, 0, 0, 0, 0, 0, 1], 0), None);
+}
+
+#[test]
+fn the_front_of_a_stream_is_an_item_that_can_stand(rt: HostRuntime) {
+    let first = Follows {
+        floor: 9,
+        started: false,
+    };
+    let one = Events {
+        scn: Some(10),
+        count: 1,
+        size: 24,
+    };
+    let event = Item::Event { scn: 10, size: 24 };
+    assert_eq!(rt; item_front(first, Events::NONE, &PUT), event);
+    assert_eq!(rt;
+        item_front(first, Events::NONE, &PUT[..23]),
+        Item::Unfinished
+    );
+    assert_eq!(rt;
+        item_front(first, one, &PUT[24..]),
+        Item::Mark { scn: 10, prev: 0 }
+    );
+    assert_eq!(rt; item_front(first, one, &DELETE), Item::Refused);
+    let next = Follows {
+        floor: 9,
+        started: true,
+    };
+    assert_eq!(rt; item_front(next, one, &PUT[24..]), Item::Refused);
+}

@@ -11,7 +11,7 @@ use Rattle.bus_types.specs.Relay.{longest_run, most_windows, fitting, TooSmall, 
 use Rattle.bus_types.proofs.Stretches.{take-cuts}
 use Rattle.bus_types.proofs.Runs.{run_takes, longest_run_is}
 use Rattle.event_codec.specs.Streams.{windows_bytes}
-use Rattle.plain_buffer.specs.Reply.{AreTold, reply_bytes}
+use Rattle.event_codec.specs.Reply.{AreTold, windows_sent}
 use Rattle.plain_buffer.specs.Run.{Tells}
 use Rattle.plain_buffer.specs.Send.{Sends}
 
@@ -55,8 +55,8 @@ served_run test ws from max number scn size w lt is fits t =
     }
 
 -- what is sent of a run is the reply's bytes
-pub run_bytes : (test : Test) (ws : List Span) (from max number scn size : ℕ) → ServesRun test ws from max number scn size → windows_bytes (cuts test (take number (drop from ws))) ≡ reply_bytes (fitting max (cuts test (drop from ws)))
-run_bytes test ws from max number scn size s = ap windows_bytes s.front ∙ ap reply_bytes (sym s.answer)
+pub run_bytes : (test : Test) (ws : List Span) (from max number scn size : ℕ) → ServesRun test ws from max number scn size → windows_bytes (cuts test (take number (drop from ws))) ≡ windows_sent (fitting max (cuts test (drop from ws)))
+run_bytes test ws from max number scn size s = ap windows_bytes s.front ∙ ap windows_sent (sym s.answer)
 
 -- what went out before a fault
 pub sent_part : (old new : Option (List ℕ)) (fault : WriteFault) (text all : List ℕ) → text ≡ all → Sends old new 0 (Err fault) text → Appends old new (take fault.written all) × (fault.written < length all)

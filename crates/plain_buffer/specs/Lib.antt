@@ -1,4 +1,3 @@
 pub mod Buffer
-pub mod Reply
 pub mod Run
 pub mod Send

@@ -5,7 +5,7 @@ ghost use Rattle.bus_types.specs.Cut.{cuts};
 ghost use Rattle.bus_types.specs.Window.{Span};
 ghost use Rattle.bus_types.specs.Timeline.{windows_between};
 ghost use Rattle.bus_types.specs.Relay.{fitting, new_relay, published, answer_of, StandsFor};
-ghost use Rattle.plain_buffer.specs.Reply.{IsServed, IsInRange, reply_bytes};
+ghost use Rattle.event_codec.specs.Reply.{IsServed, IsInRange, windows_sent};
 
 use crate::kept::Kept;
 use crate::run::{cut_size, longest_run};
@@ -108,9 +108,9 @@ impl PlainBuffer {
     ) -> Result<Served, WriteFault>
         ensures answer { IfOk result (λ s. IsServed s (answer_of self.now scn (F.test filter.now) max)) }
         ensures range { IfOk result IsInRange }
-        ensures written { OnOk result (Appends (W.written out.old) (W.written out.new) (reply_bytes (answer_of self.now scn (F.test filter.now) max))) }
-        ensures part { IfErr result (λ fault. Appends (W.written out.old) (W.written out.new) (take fault.written (reply_bytes (answer_of self.now scn (F.test filter.now) max)))) }
-        ensures short { IfErr result (λ fault. fault.written < length (reply_bytes (answer_of self.now scn (F.test filter.now) max))) }
+        ensures written { OnOk result (Appends (W.written out.old) (W.written out.new) (windows_sent (answer_of self.now scn (F.test filter.now) max))) }
+        ensures part { IfErr result (λ fault. Appends (W.written out.old) (W.written out.new) (take fault.written (windows_sent (answer_of self.now scn (F.test filter.now) max)))) }
+        ensures short { IfErr result (λ fault. fault.written < length (windows_sent (answer_of self.now scn (F.test filter.now) max))) }
         ensures cause { HasCause (W.faults out.old) (W.faults out.new) result }
     {
         if scn < self.kept.floor {
@@ -135,9 +135,9 @@ fn serve_from<F: Accepts, W: Sink>(
     requires { from < length windows.now.items }
     ensures range { IfOk result IsInRange }
     ensures answer { IfOk result (λ s. IsServed s (fitting max (cuts (F.test filter.now) (drop from windows.now.items)))) }
-    ensures written { OnOk result (Appends (W.written out.old) (W.written out.new) (reply_bytes (fitting max (cuts (F.test filter.now) (drop from windows.now.items))))) }
-    ensures part { IfErr result (λ fault. Appends (W.written out.old) (W.written out.new) (take fault.written (reply_bytes (fitting max (cuts (F.test filter.now) (drop from windows.now.items)))))) }
-    ensures short { IfErr result (λ fault. fault.written < length (reply_bytes (fitting max (cuts (F.test filter.now) (drop from windows.now.items))))) }
+    ensures written { OnOk result (Appends (W.written out.old) (W.written out.new) (windows_sent (fitting max (cuts (F.test filter.now) (drop from windows.now.items))))) }
+    ensures part { IfErr result (λ fault. Appends (W.written out.old) (W.written out.new) (take fault.written (windows_sent (fitting max (cuts (F.test filter.now) (drop from windows.now.items)))))) }
+    ensures short { IfErr result (λ fault. fault.written < length (windows_sent (fitting max (cuts (F.test filter.now) (drop from windows.now.items))))) }
     ensures cause { HasCause (W.faults out.old) (W.faults out.new) result }
 {
     let need = cut_size(&windows[from], filter);

@@ -1,5 +1,5 @@
 -- Lines and their texts.
-use Rattle.std.proofs.Common.{◌≡◌, ℕ, ◌^◌, ◌<◌, Bool, true, false, ◌==◌, inl, inr, nat_le, List, [], ◌∷◌, length, map, codes, Option, Some, None, Result, Ok, Err, refl, sym, ap, ◌∙◌, arith, lit<}
+use Rattle.std.proofs.Common.{◌≡◌, ℕ, ◌^◌, ◌<◌, ◌≤◌, Bool, true, false, if◌then◌else◌, ◌==◌, inl, inr, nat_le, List, [], ◌∷◌, length, map, codes, Option, Some, None, Result, Ok, Err, refl, sym, ap, ◌∙◌, arith, lit<}
 use Rattle.std.specs.Prelude.{decimal, bytes_eq, IfOk, IsErrOf}
 use Rattle.std.specs.List.{list_any, AllByRecursion, join_with_byte}
 use Rattle.std.proofs.lemmas.Bool.{leb-true, le-leb, ne_eqb}
@@ -14,11 +14,11 @@ use Rattle.bus_types.specs.Change.{IsChange, AreChanges}
 use Rattle.trace_script.specs.declared.fault.LineFault.{LineFault}
 use Rattle.trace_script.specs.declared.fault.LineFault.TheVariants.{BadLine, NoMemory}
 use Rattle.trace_script.specs.declared.line.Line.{Line}
-use Rattle.trace_script.specs.declared.line.Line.TheVariants.{Blank, Consumer, Commit, Feed, Poll, Show}
+use Rattle.trace_script.specs.declared.line.Line.TheVariants.{Blank, Relay, Consumer, Commit, Feed, Poll, Show}
 use Rattle.bus_types.specs.Text.{number_of, max_u64}
-use Rattle.trace_script.specs.Words.{words_of, is_name_text, name_of, changes_of}
-use Rattle.trace_script.specs.Lines.{is_blank, consumer_of, commit_of, feed_of, poll_of, show_of, words_line, line_of}
-use Rattle.trace_script.specs.Spelling.{IsName, IsLine, Spells, change_text, line_words}
+use Rattle.trace_script.specs.Words.{words_of, number_in, is_name_text, name_of, changes_of}
+use Rattle.trace_script.specs.Lines.{is_blank, relay_of, consumer_of, commit_of, feed_of, poll_of, show_of, words_line, line_of}
+use Rattle.trace_script.specs.Spelling.{IsName, IsRoom, IsLine, Spells, change_text, line_words}
 use Rattle.trace_script.specs.Reading.{Reads}
 use Rattle.bus_types.proofs.Options.{bind_some, chosen}
 use Rattle.bus_types.proofs.Numbers.{number_taken, number_again}
@@ -32,11 +32,32 @@ abbrev HasWords : List (List ℕ) → Line → Type 0
 HasWords words Blank = ⊥
 HasWords words line = IsLine line × (words ≡ line_words line)
 
+number_in_taken : (min max n : ℕ) (word : List ℕ) → max < 2 ^ 64 → number_in min max word ≡ Some n → (word ≡ decimal n) × (min ≤ n) × (n ≤ max)
+unfolding number_in
+number_in_taken min max n word limit h =
+    let number = bind_some (number_of max word) _ n h in
+    let end = cond_some (nat_le min number.0) number.0 n number.2 in
+    let spelled = number_taken max number.0 word limit number.1 in
+    rw (← end.1) (spelled.0, leb-true min number.0 end.0, spelled.1)
+
 name_taken : (word name : List ℕ) → name_of word ≡ Some name → (word ≡ name) × IsName name
 unfolding name_of
 name_taken word name h =
     let taken = cond_some (is_name_text word) word name h in
     (taken.1, rw (← taken.1) taken.0)
+
+relay_taken : (words : List (List ℕ)) (line : Line) → relay_of words ≡ Some line → HasWords (codes "relay" ∷ words) line
+unfolding relay_of
+relay_taken (bytes ∷ count ∷ []) line h =
+    let room = bind_some (number_in 1048576 268435456 bytes) _ line h in
+    let windows = bind_some (number_in 1 65536 count) _ line room.2 in
+    let whole : Relay room.0 windows.0 ≡ line = cc (windows.2) in
+    let first = number_in_taken 1048576 268435456 room.0 bytes (lit< tt) room.1 in
+    let second = number_in_taken 1 65536 windows.0 count (lit< tt) windows.1 in
+    rw (← whole) ((first.1, first.2, second.1, second.2), cc (first.0, second.0))
+relay_taken [] line h = cc h
+relay_taken (bytes ∷ []) line h = cc h
+relay_taken (bytes ∷ count ∷ more ∷ words) line h = cc h
 
 consumer_taken : (words : List (List ℕ)) (line : Line) → consumer_of words ≡ Some line → HasWords (codes "consumer" ∷ words) line
 unfolding consumer_of
@@ -66,10 +87,10 @@ commit_taken (scn ∷ []) line h = cc h
 feed_taken : (words : List (List ℕ)) (line : Line) → feed_of words ≡ Some line → HasWords (codes "feed" ∷ words) line
 unfolding feed_of
 feed_taken (count ∷ []) line h =
-    let number = bind_some (number_of 1000000 count) _ line h in
-    let end = cond_some (nat_le 1 number.0) (Feed number.0) line number.2 in
-    let spelled = number_taken 1000000 number.0 count (lit< tt) number.1 in
-    rw (← end.1) ((leb-true 1 number.0 end.0, spelled.1), cc (spelled.0))
+    let number = bind_some (number_in 1 1000000 count) _ line h in
+    let whole : Feed number.0 ≡ line = cc (number.2) in
+    let spelled = number_in_taken 1 1000000 number.0 count (lit< tt) number.1 in
+    rw (← whole) ((spelled.1, spelled.2), cc (spelled.0))
 feed_taken [] line h = cc h
 feed_taken (count ∷ more ∷ words) line h = cc h
 
@@ -77,11 +98,11 @@ poll_taken : (words : List (List ℕ)) (line : Line) → poll_of words ≡ Some 
 unfolding poll_of
 poll_taken (name ∷ max ∷ []) line h =
     let known = bind_some (name_of name) _ line h in
-    let number = bind_some (number_of 16777216 max) _ line known.2 in
-    let end = cond_some (nat_le 1 number.0) (Poll known.0 number.0) line number.2 in
+    let number = bind_some (number_in 1 16777216 max) _ line known.2 in
+    let whole : Poll known.0 number.0 ≡ line = cc (number.2) in
     let named = name_taken name known.0 known.1 in
-    let spelled = number_taken 16777216 number.0 max (lit< tt) number.1 in
-    rw (← end.1) ((named.1, leb-true 1 number.0 end.0, spelled.1), cc (named.0, spelled.0))
+    let spelled = number_in_taken 1 16777216 number.0 max (lit< tt) number.1 in
+    rw (← whole) ((named.1, (spelled.1, spelled.2)), cc (named.0, spelled.0))
 poll_taken [] line h = cc h
 poll_taken (name ∷ []) line h = cc h
 poll_taken (name ∷ max ∷ more ∷ words) line h = cc h
@@ -96,36 +117,33 @@ show_taken (name ∷ []) line h =
 show_taken [] line h = cc h
 show_taken (name ∷ more ∷ words) line h = cc h
 
--- what holds of a line under its first word holds under a word that is equal to it
-named_taken : (word name : List ℕ) (words : List (List ℕ)) (line : Line) → bytes_eq word name ≡ true → HasWords (name ∷ words) line → HasWords (word ∷ words) line
-named_taken word name words line same h = rw ((bytes_eq-Decides word name).0 same) h
+-- a line whose first word is this name or another word
+by_name : (word name : List ℕ) (words : List (List ℕ)) (line : Line) (named others : Option Line)
+    → (if bytes_eq word name then named else others) ≡ Some line
+    → (named ≡ Some line → HasWords (name ∷ words) line) → (others ≡ Some line → HasWords (word ∷ words) line) → HasWords (word ∷ words) line
+by_name word name words line named others h this that =
+    elim (chosen (bytes_eq word name) named others (Some line) h) [
+      | inl same ↦ rw ((bytes_eq-Decides word name).0 same.0) (this same.1)
+      | inr other ↦ that other.1
+    ]
 
 words_taken : (words : List (List ℕ)) (line : Line) → words_line words ≡ Some line → HasWords words line
 unfolding words_line
 words_taken [] line h = cc h
 words_taken (word ∷ words) line h =
-    elim (chosen (bytes_eq word (codes "commit")) (commit_of words) _ (Some line) h) [
-      | inl commit ↦ named_taken word (codes "commit") words line commit.0 (commit_taken words line commit.1)
-      | inr other ↦ elim (chosen (bytes_eq word (codes "feed")) (feed_of words) _ (Some line) other.1) [
-        | inl feed ↦ named_taken word (codes "feed") words line feed.0 (feed_taken words line feed.1)
-        | inr other ↦ elim (chosen (bytes_eq word (codes "poll")) (poll_of words) _ (Some line) other.1) [
-          | inl poll ↦ named_taken word (codes "poll") words line poll.0 (poll_taken words line poll.1)
-          | inr other ↦ elim (chosen (bytes_eq word (codes "show")) (show_of words) _ (Some line) other.1) [
-            | inl show ↦ named_taken word (codes "show") words line show.0 (show_taken words line show.1)
-            | inr other ↦ elim (chosen (bytes_eq word (codes "consumer")) (consumer_of words) None (Some line) other.1) [
-              | inl consumer ↦ named_taken word (codes "consumer") words line consumer.0 (consumer_taken words line consumer.1)
-              | inr other ↦ cc other.1
-            ]
-          ]
-        ]
-      ]
-    ]
+    by_name word (codes "commit") words line (commit_of words) _ h (commit_taken words line)
+    (λ h. by_name word (codes "consumer") words line (consumer_of words) _ h (consumer_taken words line)
+    (λ h. by_name word (codes "feed") words line (feed_of words) _ h (feed_taken words line)
+    (λ h. by_name word (codes "poll") words line (poll_of words) _ h (poll_taken words line)
+    (λ h. by_name word (codes "show") words line (show_of words) _ h (show_taken words line)
+    (λ h. by_name word (codes "relay") words line (relay_of words) None h (relay_taken words line) (λ h. cc h))))))
 
 joined : (text : List ℕ) (words : List (List ℕ)) → words_of text ≡ words → text ≡ join_with_byte 32 words
 joined text words same = sym (join_with_byte-slice_split 32 text) ∙ ap (join_with_byte 32) same
 
 text_taken : (text : List ℕ) (line : Line) → HasWords (words_of text) line → Spells text line
 text_taken text Blank h = absurd h
+text_taken text (Relay bytes windows) h = (h.0, joined text _ h.1)
 text_taken text (Consumer name) h = (h.0, joined text _ h.1)
 text_taken text (Commit scn changes) h = (h.0, joined text _ h.1)
 text_taken text (Feed count) h = (h.0, joined text _ h.1)
@@ -171,6 +189,7 @@ are_full-changes (c ∷ cs) within = rw (is_full-change c within.0) (are_full-ch
 
 are_full : (line : Line) → IsLine line → has_empty (line_words line) ≡ false
 are_full Blank h = refl
+are_full (Relay bytes windows) h = rw (is_full-decimal bytes (omega arith), is_full-decimal windows (omega arith)) refl
 are_full (Consumer name) h = rw (is_full-name name h) refl
 are_full (Commit scn changes) h = rw (is_full-decimal scn h.0) (are_full-changes changes h.2)
 are_full (Feed count) h = rw (is_full-decimal count (omega arith)) refl
@@ -179,6 +198,7 @@ are_full (Show name) h = rw (is_full-name name h) refl
 
 taken_full : (words : List (List ℕ)) (line : Line) → HasWords words line → has_empty words ≡ false
 taken_full words Blank h = absurd h
+taken_full words (Relay bytes windows) h = rw h.1 (are_full (Relay bytes windows) h.0)
 taken_full words (Consumer name) h = rw h.1 (are_full (Consumer name) h.0)
 taken_full words (Commit scn changes) h = rw h.1 (are_full (Commit scn changes) h.0)
 taken_full words (Feed count) h = rw h.1 (are_full (Feed count) h.0)
@@ -197,6 +217,7 @@ no_line words empty = none_taken (words_line words) (λ line read. cc (empty, ta
 
 words_are : (line : Line) → IsLine line → AllByRecursion IsWord (line_words line)
 words_are Blank h = tt
+words_are (Relay bytes windows) h = (refl, (IsWord-decimal bytes (omega arith), (IsWord-decimal windows (omega arith), tt)))
 words_are (Consumer name) h = (refl, (IsWord-name name h, (refl, tt)))
 words_are (Commit scn changes) h = (refl, (IsWord-decimal scn h.0, words-changes changes h.2 h.3))
 words_are (Feed count) h = (refl, (IsWord-decimal count (omega arith), tt))
@@ -207,6 +228,15 @@ from_words : (word : List ℕ) (words : List (List ℕ)) (line : Line) → AllBy
     → is_blank (join_with_byte 32 (word ∷ words)) ≡ false → words_line (word ∷ words) ≡ Some line → line_of (join_with_byte 32 (word ∷ words)) ≡ Some line
 unfolding line_of
 from_words word words line all full read = rw (no_return (word ∷ words) all, full, words_again word words all) read
+
+number_in_again : (min max n : ℕ) → max < 2 ^ 64 → min ≤ n → n ≤ max → number_in min max (decimal n) ≡ Some n
+unfolding number_in
+number_in_again min max n limit low high = rw (number_again max n limit high, le-leb min n low) refl
+
+relay_again : (bytes windows : ℕ) → IsRoom bytes windows → words_line (line_words (Relay bytes windows)) ≡ Some (Relay bytes windows)
+unfolding words_line relay_of
+relay_again bytes windows h =
+    rw (number_in_again 1048576 268435456 bytes (lit< tt) h.0 h.1, number_in_again 1 65536 windows (lit< tt) h.2 h.3) refl
 
 consumer_again : (name : List ℕ) → IsName name → words_line (line_words (Consumer name)) ≡ Some (Consumer name)
 unfolding words_line consumer_of name_of
@@ -219,11 +249,11 @@ commit_again scn (c ∷ cs) h = rw (number_again max_u64 scn (lit< tt) (omega (a
 
 feed_again : (count : ℕ) → IsLine (Feed count) → words_line (line_words (Feed count)) ≡ Some (Feed count)
 unfolding words_line feed_of
-feed_again count h = rw (number_again 1000000 count (lit< tt) h.1, le-leb 1 count h.0) refl
+feed_again count h = rw (number_in_again 1 1000000 count (lit< tt) h.0 h.1) refl
 
 poll_again : (name : List ℕ) (max : ℕ) → IsLine (Poll name max) → words_line (line_words (Poll name max)) ≡ Some (Poll name max)
 unfolding words_line poll_of name_of
-poll_again name max h = rw (h.0, number_again 16777216 max (lit< tt) h.2, le-leb 1 max h.1) refl
+poll_again name max h = rw (h.0, number_in_again 1 16777216 max (lit< tt) h.1.0 h.1.1) refl
 
 show_again : (name : List ℕ) → IsName name → words_line (line_words (Show name)) ≡ Some (Show name)
 unfolding words_line show_of name_of
@@ -232,6 +262,7 @@ show_again name named = rw named refl
 pub line_again : (text : List ℕ) (line : Line) → Spells text line → line_of text ≡ Some line
 unfolding line_of
 line_again text Blank h = rw (h.1, h.0) refl
+line_again text (Relay bytes windows) h = rw h.1 (from_words _ _ _ (words_are (Relay bytes windows) h.0) refl (relay_again bytes windows h.0))
 line_again text (Consumer name) h = rw h.1 (from_words _ _ _ (words_are (Consumer name) h.0) refl (consumer_again name h.0))
 line_again text (Commit scn changes) h = rw h.1 (from_words _ _ _ (words_are (Commit scn changes) h.0) refl (commit_again scn changes h.0))
 line_again text (Feed count) h = rw h.1 (from_words _ _ _ (words_are (Feed count) h.0) refl (feed_again count h.0))

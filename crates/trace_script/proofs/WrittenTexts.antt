@@ -5,7 +5,7 @@ use Rattle.std.specs.List.{join_with_byte}
 use Rattle.std.proofs.lemmas.List.{take-append-drop, take_at}
 use Rattle.bus_types.specs.declared.change.Change.{Change}
 use Rattle.trace_script.specs.declared.line.Line.{Line}
-use Rattle.trace_script.specs.declared.line.Line.TheVariants.{Blank, Consumer, Commit, Feed, Poll, Show}
+use Rattle.trace_script.specs.declared.line.Line.TheVariants.{Blank, Relay, Consumer, Commit, Feed, Poll, Show}
 use Rattle.trace_script.specs.Lines.{line_of}
 use Rattle.trace_script.specs.Spelling.{IsLine, IsInRange, Spells, change_text, line_text}
 use Rattle.bus_types.specs.Text.{Appends}
@@ -41,6 +41,7 @@ commit_text scn changes = ap (λ (l : List ℕ). codes "commit " ++ l) (join-spa
 
 pub spelled : (line : Line) → IsLine line → Spells (line_text line) line
 spelled Blank h = (refl, refl)
+spelled (Relay bytes windows) h = (h, refl)
 spelled (Consumer name) h = (h, refl)
 spelled (Commit scn changes) h = (h, refl)
 spelled (Feed count) h = (h, refl)
@@ -53,8 +54,9 @@ read_back line h = line_again (line_text line) line (spelled line h)
 -- what a text spells is in range
 pub in_range : (text : List ℕ) (line : Line) → Spells text line → IsInRange line
 in_range text Blank h = tt
+in_range text (Relay bytes windows) h = h.0
 in_range text (Consumer name) h = tt
 in_range text (Commit scn changes) h = h.0.1
 in_range text (Feed count) h = h.0
-in_range text (Poll name max) h = (h.0.1, h.0.2)
+in_range text (Poll name max) h = h.0.1
 in_range text (Show name) h = tt

@@ -1,10 +1,20 @@
 -- The line that a text spells, by its words.
-use Rattle.std.specs.Prelude.{ℕ, Bool, true, if◌then◌else◌, ◌==◌, nat_le, List, [], ◌∷◌, codes, bytes_eq, Option, Some, None}
+use Rattle.std.specs.Prelude.{ℕ, Bool, true, if◌then◌else◌, ◌==◌, List, [], ◌∷◌, codes, bytes_eq, Option, Some, None}
 use Rattle.std.specs.List.{list_any}
 use Rattle.trace_script.specs.declared.line.Line.{Line}
-use Rattle.trace_script.specs.declared.line.Line.TheVariants.{Blank, Consumer, Commit, Feed, Poll, Show}
+use Rattle.trace_script.specs.declared.line.Line.TheVariants.{Blank, Relay, Consumer, Commit, Feed, Poll, Show}
 use Rattle.bus_types.specs.Text.{◌>>=◌, number_of, max_u64}
-use Rattle.trace_script.specs.Words.{words_of, name_of, changes_of}
+use Rattle.trace_script.specs.Words.{words_of, number_in, name_of, changes_of}
+
+-- `relay BYTES COUNT`
+unfoldable pub relay_of : List (List ℕ) → Option Line
+relay_of (bytes ∷ count ∷ []) = do
+  room ← number_in 1048576 268435456 bytes
+  windows ← number_in 1 65536 count
+  Some (Relay room windows)
+relay_of [] = None
+relay_of (bytes ∷ []) = None
+relay_of (bytes ∷ count ∷ more ∷ words) = None
 
 -- `consumer NAME all`
 unfoldable pub consumer_of : List (List ℕ) → Option Line
@@ -27,8 +37,8 @@ commit_of (scn ∷ []) = None
 -- `feed N`
 unfoldable pub feed_of : List (List ℕ) → Option Line
 feed_of (count ∷ []) = do
-  number ← number_of 1000000 count
-  if nat_le 1 number then Some (Feed number) else None
+  number ← number_in 1 1000000 count
+  Some (Feed number)
 feed_of [] = None
 feed_of (count ∷ more ∷ words) = None
 
@@ -36,8 +46,8 @@ feed_of (count ∷ more ∷ words) = None
 unfoldable pub poll_of : List (List ℕ) → Option Line
 poll_of (name ∷ max ∷ []) = do
   known ← name_of name
-  number ← number_of 16777216 max
-  if nat_le 1 number then Some (Poll known number) else None
+  number ← number_in 1 16777216 max
+  Some (Poll known number)
 poll_of [] = None
 poll_of (name ∷ []) = None
 poll_of (name ∷ max ∷ more ∷ words) = None
@@ -55,10 +65,11 @@ unfoldable pub words_line : List (List ℕ) → Option Line
 words_line [] = None
 words_line (word ∷ words) =
     if bytes_eq word (codes "commit") then commit_of words
+    else if bytes_eq word (codes "consumer") then consumer_of words
     else if bytes_eq word (codes "feed") then feed_of words
     else if bytes_eq word (codes "poll") then poll_of words
     else if bytes_eq word (codes "show") then show_of words
-    else if bytes_eq word (codes "consumer") then consumer_of words
+    else if bytes_eq word (codes "relay") then relay_of words
     else None
 
 -- whether the text is empty or begins with `#`

@@ -1,19 +1,21 @@
 -- What a script means: the text that it prints, and how it ends.
 use Rattle.std.specs.Prelude.{◌≡◌, ◌≤◌, ℕ, ◌+◌, ◌==◌, ◌||◌, nat_lt, nat_le, if◌then◌else◌, Bool, true, false, List, [], ◌∷◌, ◌++◌, length, Option, Some, None, option_and_then}
 use Rattle.std.specs.List.{list_any, AllByRecursion}
-use Rattle.bus_types.specs.Script.{Consumer, State, Step, start, consumer_step, commit_step, feed_step, poll_step, show_step}
+use Rattle.bus_types.specs.View.{everything}
+use Rattle.bus_types.specs.Script.{Consumer, State, Step, start, begin, relay_step, consumer_step, commit_step, feed_step, poll_step, show_step}
 use Rattle.trace_script.specs.declared.line.Line.{Line}
-use Rattle.trace_script.specs.declared.line.Line.TheVariants.{Blank, Consumer as NewConsumer, Commit, Feed, Poll, Show}
+use Rattle.trace_script.specs.declared.line.Line.TheVariants.{Blank, Relay, Consumer as NewConsumer, Commit, Feed, Poll, Show}
 use Rattle.trace_script.specs.Lines.{line_of}
 
--- what a line does
+-- what a line does; a blank one does nothing, and any other begins the script
 abbrev pub line_step : State → Line → Step
 line_step s Blank = Some (s, [])
-line_step s (NewConsumer name) = consumer_step s name
-line_step s (Commit scn changes) = commit_step s scn changes
-line_step s (Feed count) = feed_step s count
-line_step s (Poll name max) = poll_step s name max
-line_step s (Show name) = show_step s name
+line_step s (Relay bytes windows) = begin (relay_step s bytes windows)
+line_step s (NewConsumer name) = begin (consumer_step s name everything)
+line_step s (Commit scn changes) = begin (commit_step s scn changes)
+line_step s (Feed count) = begin (feed_step s count)
+line_step s (Poll name max) = begin (poll_step s name max)
+line_step s (Show name) = begin (show_step s name)
 
 -- what a text does as a line: nothing where it is outside the grammar or against a rule
 unfoldable pub text_step : State → List ℕ → Step
@@ -111,8 +113,8 @@ state_after s count used (line ∷ lines) =
     if is_too_long count used line then None
     else option_and_then (λ r. state_after r.0 (count + 1) (used + line.size) lines) (text_step s line.text)
 
--- the consumers of a later state: each is there still, under its name, at its SCN or at a greater one
+-- the consumers of a later state: each is there still, under its name and with its test, at its SCN or at a greater one
 abbrev pub GoOn : List Consumer → List Consumer → Type 0
 GoOn [] later = Unit {0}
 GoOn (c ∷ cs) [] = ⊥
-GoOn (c ∷ cs) (d ∷ ds) = (d.name ≡ c.name) × (c.scn ≤ d.scn) × GoOn cs ds
+GoOn (c ∷ cs) (d ∷ ds) = (d.name ≡ c.name) × (d.test ≡ c.test) × (c.scn ≤ d.scn) × GoOn cs ds

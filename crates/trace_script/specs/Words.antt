@@ -1,5 +1,5 @@
 -- The words of a line: numbers, names, changes.
-use Rattle.std.specs.Prelude.{ℕ, ◌+◌, ◌-◌, ◌*◌, Bool, if◌then◌else◌, ◌==◌, ◌||◌, ◌&&◌, nat_lt, nat_le, List, [], ◌∷◌, length, take, drop, position, slice_index, Option, Some, None, option_and_then, option_map}
+use Rattle.std.specs.Prelude.{ℕ, Bool, if◌then◌else◌, ◌==◌, ◌||◌, ◌&&◌, nat_le, List, [], ◌∷◌, length, Option, Some, None, option_map}
 use Rattle.std.specs.Result.{result_ok}
 use Rattle.std.specs.List.{list_all, slice_split}
 use Rattle.hex.specs.Hex.{decode_of}
@@ -12,6 +12,12 @@ use Rattle.bus_types.specs.Text.{◌>>=◌, cut_at, is_digit, number_of, max_u64
 -- the parts between spaces; two spaces in a row, or one at an end, leave an empty part, which is no word
 abbrev pub words_of : List ℕ → List (List ℕ)
 words_of bytes = slice_split (λ b. b == 32) bytes
+
+-- the number that a word spells, where it is at least min and at most max
+unfoldable pub number_in : ℕ → ℕ → List ℕ → Option ℕ
+number_in min max word = do
+  number ← number_of max word
+  if nat_le min number then Some number else None
 
 -- ---- names
 

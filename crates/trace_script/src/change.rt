@@ -1,14 +1,13 @@
-ghost use Rattle.std.specs.Prelude.{◌≡◌, ◌==◌, ◌<◌, ℕ, List, length, position, IfSome, Some, None, map, option_map, if◌then◌else◌};
+ghost use Rattle.std.specs.Prelude.{◌≡◌, ℕ, List, Some, None, map, if◌then◌else◌};
 ghost use Rattle.std.specs.Result.{result_ok};
 ghost use Rattle.std.specs.List.{list_all};
 ghost use Rattle.hex.specs.Hex.{decode_of};
 ghost use Rattle.trace_script.specs.Reading.{Reads};
-ghost use Rattle.bus_types.specs.Text.{number_of, cut_at};
+ghost use Rattle.bus_types.specs.Text.{number_of};
 ghost use Rattle.trace_script.specs.Words.{is_lower_hex, key_of, payload_of, put_or_delete, change_of, changes_of};
 
 use crate::fault::LineFault;
-use crate::number::number;
-use bus_types::{Change, Key, Payload};
+use bus_types::{Change, Key, Payload, cut_text, read_number};
 use hex::FromHexError;
 use std::alloc::Global;
 
@@ -28,9 +27,9 @@ pub(crate) fn changes(alloc: Global, words: &[&[u8]]) -> Result<Vec<Change>, Lin
 pub(crate) fn change(alloc: Global, text: &[u8]) -> Result<Change, LineFault>
     ensures { Reads (λ change. change) result (change_of text.now) }
 {
-    let (source, row) = cut(b'/', text).ok_or(LineFault::BadLine)?;
+    let (source, row) = cut_text(b'/', text).ok_or(LineFault::BadLine)?;
     let source = source_number(source).ok_or(LineFault::BadLine)?;
-    match cut(b'=', row) {
+    match cut_text(b'=', row) {
         Some((key, digits)) => put(alloc, source, key, digits),
         None => delete(source, row).ok_or(LineFault::BadLine),
     }
@@ -39,7 +38,7 @@ pub(crate) fn change(alloc: Global, text: &[u8]) -> Result<Change, LineFault>
 fn source_number(digits: &[u8]) -> Option<u16>
     ensures { result ≡ number_of 65535 digits.now }
 {
-    let number = number(digits, 65535)?;
+    let number = read_number(digits, 65535)?;
     Some(number as u16)
 }
 
@@ -61,7 +60,7 @@ fn put(alloc: Global, source: u16, key: &[u8], digits: &[u8]) -> Result<Change, 
 fn delete(source: u16, row: &[u8]) -> Option<Change>
     ensures { result ≡ put_or_delete source row.now None }
 {
-    let (key, rest) = cut(b'-', row)?;
+    let (key, rest) = cut_text(b'-', row)?;
     let key = key_number(key)?;
     if !rest.is_empty() {
         return None;
@@ -77,24 +76,8 @@ fn delete(source: u16, row: &[u8]) -> Option<Change>
 fn key_number(digits: &[u8]) -> Option<Key>
     ensures { result ≡ key_of digits.now }
 {
-    let number = number(digits, u64::MAX)?;
+    let number = read_number(digits, u64::MAX)?;
     Some(Key::Long(number))
-}
-
-/// What stands before and after the first such byte.
-#[tactic(auto, using(std::proofs::lemmas::List::take_rest))]
-fn cut(byte: u8, bytes: &[u8]) -> Option<(&[u8], &[u8])>
-    ensures { option_map (λ parts. (parts.0.now, parts.1.now)) result ≡ cut_at byte bytes.now }
-{
-    let at = place_of(byte, bytes)?;
-    Some((&bytes[..at], &bytes[at + 1..]))
-}
-
-fn place_of(byte: u8, bytes: &[u8]) -> Option<usize>
-    ensures place { result ≡ position (λ b. b == byte) bytes.now }
-    ensures within { IfSome result (λ place. place < length bytes.now) }
-{
-    bytes.iter().position(|b| *b == byte)
 }
 
 /// The payload of which each byte stands as two lower-case hex digits.

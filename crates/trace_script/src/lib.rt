@@ -8,7 +8,6 @@ mod fault;
 mod laws;
 mod line;
 mod name;
-mod number;
 mod reading;
 mod rows;
 mod writing;
@@ -18,7 +17,7 @@ pub use laws::consumers_never_go_back;
 pub use line::Line;
 pub use name::Name;
 pub use reading::read_line;
-pub use rows::{worked_script_of_many_windows, worked_scripts};
+pub use rows::{worked_script_of_many_windows, worked_scripts, worked_scripts_of_a_relay};
 pub use writing::write_line;
 
 #[cfg(test)]

@@ -6,6 +6,13 @@ use bus_types::Changes;
 pub enum Line {
     /// An empty line, or a comment, which begins with `#`. It does nothing.
     Blank,
+    /// `relay BYTES COUNT`: the room of the relay. It is the first line that isn't blank, or there is none.
+    Relay {
+        /// The most bytes of windows in full, 1,048,576 to 268,435,456.
+        bytes: u64,
+        /// The most windows, 1 to 65,536.
+        windows: u32,
+    },
     /// `consumer NAME all`: a new consumer that follows every row.
     Consumer {
         /// Its name, which no consumer has yet.

@@ -1,18 +1,26 @@
-ghost use Rattle.std.specs.Prelude.{◌≡◌, ◌==◌, ◌∷◌, false, bytes_eq, codes, length, IfOk, IsErrOf, map};
+ghost use Rattle.std.specs.Prelude.{◌≡◌, ◌==◌, ◌≤◌, ◌∷◌, false, bytes_eq, codes, length, IfOk, IfSome, IsErrOf, map};
 ghost use Rattle.std.specs.List.{list_any};
 ghost use Rattle.trace_script.specs.Reading.{Reads};
 ghost use Rattle.trace_script.specs.declared.line.Line.{Line};
 ghost use Rattle.trace_script.specs.Spelling.{Spells};
-ghost use Rattle.trace_script.specs.Words.{words_of, name_of};
-ghost use Rattle.trace_script.specs.Lines.{is_blank, consumer_of, commit_of, feed_of, poll_of, show_of, words_line, line_of};
+ghost use Rattle.trace_script.specs.Words.{words_of, number_in, name_of};
+ghost use Rattle.trace_script.specs.Lines.{is_blank, relay_of, consumer_of, commit_of, feed_of, poll_of, show_of, words_line, line_of};
 
 use crate::change::changes;
 use crate::fault::LineFault;
 use crate::line::Line;
 use crate::name::Name;
-use crate::number::number;
-use bus_types::Changes;
+use bus_types::{Changes, read_number};
 use std::alloc::{AllocError, Global};
+
+/// The least bytes of windows that a relay is told to hold.
+const MIN_ROOM: u64 = 1_048_576;
+
+/// The most bytes of windows that a relay is told to hold.
+const MAX_ROOM: u64 = 268_435_456;
+
+/// The most windows that a relay is told to hold.
+const MAX_WINDOWS: u64 = 65_536;
 
 /// The most commits that one line feeds.
 const MAX_FEED: u64 = 1_000_000;
@@ -89,13 +97,17 @@ fn words_line(alloc: Global, words: &[&[u8]]) -> Result<Line, LineFault>
     if *word == b"commit".as_slice() {
         return commit(alloc, words);
     }
+    if *word == b"consumer".as_slice() {
+        return consumer(words).ok_or(LineFault::BadLine);
+    }
     plain_line(word, words).ok_or(LineFault::BadLine)
 }
 
-/// The line of these words, where it is none of changes.
+/// The line of these words, where it is none of changes or a filter.
 #[tactic(auto, unfolding(crate::specs::Lines::words_line))]
 fn plain_line(word: &[u8], words: &[&[u8]]) -> Option<Line>
-    requires { bytes_eq word.now (codes "commit") ≡ false }
+    requires commit { bytes_eq word.now (codes "commit") ≡ false }
+    requires consumer { bytes_eq word.now (codes "consumer") ≡ false }
     ensures { result ≡ words_line (word.now ∷ map (λ word. word.now) words.now) }
 {
     if word == b"feed".as_slice() {
@@ -104,8 +116,8 @@ fn plain_line(word: &[u8], words: &[&[u8]]) -> Option<Line>
         poll(words)
     } else if word == b"show".as_slice() {
         show(words)
-    } else if word == b"consumer".as_slice() {
-        consumer(words)
+    } else if word == b"relay".as_slice() {
+        relay(words)
     } else {
         None
     }
@@ -122,9 +134,25 @@ fn commit(alloc: Global, words: &[&[u8]]) -> Result<Line, LineFault>
     if words.is_empty() {
         return Err(LineFault::BadLine);
     }
-    let scn = number(scn, u64::MAX).ok_or(LineFault::BadLine)?;
+    let scn = read_number(scn, u64::MAX).ok_or(LineFault::BadLine)?;
     let changes = Changes::new(changes(alloc, words)?);
     Ok(Line::Commit { scn, changes })
+}
+
+/// `relay BYTES COUNT`
+#[tactic(auto, unfolding(crate::specs::Lines::relay_of))]
+fn relay(words: &[&[u8]]) -> Option<Line>
+    ensures { result ≡ relay_of (map (λ word. word.now) words.now) }
+{
+    let [bytes, count] = words else {
+        return None;
+    };
+    let bytes = number_in(bytes, MIN_ROOM, MAX_ROOM)?;
+    let windows = number_in(count, 1, MAX_WINDOWS)?;
+    Some(Line::Relay {
+        bytes,
+        windows: windows as u32,
+    })
 }
 
 /// `consumer NAME all`
@@ -151,11 +179,7 @@ fn feed(words: &[&[u8]]) -> Option<Line>
     let [count] = words else {
         return None;
     };
-    let count = number(count, MAX_FEED)?;
-    if count == 0 {
-        return None;
-    }
-    Some(Line::Feed(count))
+    Some(Line::Feed(number_in(count, 1, MAX_FEED)?))
 }
 
 /// `poll NAME MAX`
@@ -167,10 +191,7 @@ fn poll(words: &[&[u8]]) -> Option<Line>
         return None;
     };
     let name = known_name(name)?;
-    let max = number(max, MAX_REPLY)?;
-    if max == 0 {
-        return None;
-    }
+    let max = number_in(max, 1, MAX_REPLY)?;
     Some(Line::Poll {
         name,
         max: max as u32,
@@ -193,4 +214,14 @@ fn known_name(word: &[u8]) -> Option<Name>
     ensures { result ≡ name_of word.now }
 {
     Name::new(word)
+}
+
+/// The number that a word spells, where it is at least `min` and at most `max`.
+#[tactic(auto, unfolding(crate::specs::Words::number_in))]
+fn number_in(word: &[u8], min: u64, max: u64) -> Option<u64>
+    ensures value { result ≡ number_in min max word.now }
+    ensures small { IfSome result (λ number. number ≤ max) }
+{
+    let number = read_number(word, max)?;
+    if min <= number { Some(number) } else { None }
 }

@@ -24,6 +24,20 @@ pub fn worked_scripts()
         ≡ record { text = codes "show c online 0 0\n"; ending = BadAt 3 } }
 {}
 
+/// What some scripts of a relay with little room mean, by computation from the definitions alone.
+pub fn worked_scripts_of_a_relay()
+    ensures floor { script (codes "relay 1048576 2\ncommit 10 0/1=aa\ncommit 20 0/2=bb\ncommit 30 0/3=cc\nfeed 3\n")
+        ≡ record { text = codes "relay 10 30\n"; ending = Finished } }
+    ensures behind { script (codes "relay 1048576 2\nconsumer c all\ncommit 10 0/1=aa\ncommit 20 0/2=bb\ncommit 30 0/3=cc\nfeed 3\npoll c 1000\npoll c 1000\npoll c 1000\n")
+        ≡ record { text = codes "relay 10 30\nnotfound 10\nbehind 0\nnotfound 10\n"; ending = Finished } }
+    ensures not_the_first { script (codes "commit 10 0/1=aa\nrelay 1048576 2\n")
+        ≡ record { text = codes ""; ending = BadAt 2 } }
+    ensures behind_blank_lines { script (codes "# x\n\nrelay 1048576 2\nfeed 1\n")
+        ≡ record { text = codes "relay 0 0\n"; ending = Finished } }
+    ensures too_little_room { script (codes "relay 1048575 2\n")
+        ≡ record { text = codes ""; ending = BadAt 1 } }
+{}
+
 /// What a script means of which one reply can't have all windows, by computation from the definitions alone.
 pub fn worked_script_of_many_windows()
     ensures { script (codes "consumer c all\n" ++ flat_map (λ scn. codes "commit " ++ decimal scn ++ codes " 0/1=aa\n") (range_with_len 1 33) ++ codes "feed 33\npoll c 16777216\npoll c 16777216\n")

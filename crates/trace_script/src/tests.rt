@@ -10,6 +10,9 @@ use std::test::*;
 fn says(line: &Result<Line, LineFault>, kind: &str, text: &[u8], number: u64) -> bool {
     match line {
         Ok(Line::Blank) => kind == "blank",
+        Ok(Line::Relay { bytes, windows }) => {
+            kind == "relay" && *bytes == number && u64::from(*windows) == number / 65536
+        }
         Ok(Line::Consumer { name }) => kind == "consumer" && name.bytes() == text,
         Ok(Line::Commit { scn, .. }) => kind == "commit" && *scn == number,
         Ok(Line::Feed(count)) => kind == "feed" && *count == number,
@@ -47,6 +50,8 @@ fn each_kind_of_line_is_read(rt: HostRuntime) {
         (b"".as_slice(), "blank", b"".as_slice(), 0),
         (b"#", "blank", b"", 0),
         (b"# a  comment\t", "blank", b"", 0),
+        (b"relay 1048576 16", "relay", b"", 1_048_576),
+        (b"relay 268435456 4096", "relay", b"", 268_435_456),
         (b"consumer c1 all", "consumer", b"c1", 0),
         (b"commit 7 1/2=00ff", "commit", b"", 7),
         (b"commit 0 0/0-", "commit", b"", 0),
@@ -120,6 +125,14 @@ fn other_texts_are_bad(rt: HostRuntime) {
         b"commit 1 1/1=0A",
         b"commit 1 1/1=0g",
         b"commit 1 1/1=00-",
+        b"relay",
+        b"relay 1048576",
+        b"relay 1048575 1",
+        b"relay 268435457 1",
+        b"relay 1048576 0",
+        b"relay 1048576 65537",
+        b"relay 01048576 1",
+        b"relay 1048576 1 1",
         b"feed 0",
         b"feed 1000001",
         b"feed 01",
@@ -192,6 +205,16 @@ fn a_line_is_written_behind_what_was_there(rt: HostRuntime) -> Result<(), Fail> 
     for (written, text) in [
         (written(alloc, &Line::Blank), b"> ".as_slice()),
         (
+            written(
+                alloc,
+                &Line::Relay {
+                    bytes: 1_048_576,
+                    windows: 1,
+                },
+            ),
+            b"> relay 1048576 1",
+        ),
+        (
             written(alloc, &Line::Consumer { name }),
             b"> consumer c1 all",
         ),
@@ -220,6 +243,7 @@ fn written_again(alloc: Global, text: &[u8]) -> Result<Vec<u8>, LineFault> {
 fn each_kind_of_line_is_written_as_it_was_read(rt: HostRuntime) -> Result<(), Fail> {
     for text in [
         b"".as_slice(),
+        b"relay 268435456 65536",
         b"consumer abcdefghijklmnop all",
         b"commit 18446744073709551615 1/2= 1/2- 0/0=00",
         b"feed 1",

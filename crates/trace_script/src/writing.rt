@@ -39,6 +39,7 @@ fn room_for(line: &Line) -> usize
 {
     match line {
         Line::Blank => 0,
+        Line::Relay { .. } => 22,
         Line::Consumer { name } => 13 + name.bytes().len(),
         Line::Commit { scn, changes } => {
             let _scn = *scn;
@@ -86,12 +87,23 @@ fn append_line(line: &Line, out: &mut Vec<u8>) -> Result<(), NoMemory>
 {
     match line {
         Line::Blank => Ok(()),
+        Line::Relay { bytes, windows } => append_relay(*bytes, *windows, out),
         Line::Consumer { name } => append_consumer(name, out),
         Line::Commit { scn, changes } => append_commit(*scn, changes.items(), out),
         Line::Feed(count) => append_feed(*count, out),
         Line::Poll { name, max } => append_poll(name, *max, out),
         Line::Show(name) => append_show(name, out),
     }
+}
+
+/// `relay BYTES COUNT`
+fn append_relay(bytes: u64, windows: u32, out: &mut Vec<u8>) -> Result<(), NoMemory>
+    ensures { Appends result (codes "relay " ++ decimal bytes ++ codes " " ++ decimal windows) out.old.items out.new.items }
+{
+    out.extend_from_slice(b"relay ")?;
+    append_number(bytes, out)?;
+    out.extend_from_slice(b" ")?;
+    append_number(u64::from(windows), out)
 }
 
 /// `consumer NAME all`

@@ -3,7 +3,7 @@ use Rattle.std.proofs.Common.{◌≡◌, ℕ, ◌<◌, ◌≤◌, Bool, true, fa
 use Rattle.std.proofs.lemmas.Bool.{eqb-true, eqb-false}
 use Rattle.std.proofs.lemmas.List.{length-append, append-nil, nil_from_length}
 use Rattle.bus_types.specs.declared.change.Change.{Change}
-use Rattle.bus_types.specs.Change.{IsChange, AreChanges}
+use Rattle.bus_types.specs.Change.{AreChanges}
 use Rattle.bus_types.specs.declared.limits.TheConstants.{MAX_SCN}
 use Rattle.event_codec.specs.Bytes.{Event, event_bytes, changes_bytes}
 use Rattle.event_codec.proofs.EventBytes.{one_event, event_length}

@@ -7,7 +7,7 @@ use Rattle.event_codec.specs.Bytes.{window_bytes}
 use Rattle.window_stream.specs.declared.scan.Scan.{Scan}
 use Rattle.event_codec.specs.declared.item.Item.TheVariants as items
 use Rattle.event_codec.specs.Items.{since_of, open_in, Shows}
-use Rattle.window_stream.specs.Scan.{IsScan, front_at, Moves}
+use Rattle.window_stream.specs.Scan.{IsScan, front_at, ShowsEvent, Moves}
 use Rattle.window_stream.specs.Decode.{IsEvents, AreEvents, AreEventsOf}
 use Rattle.event_codec.specs.Streams.{Comes}
 use Rattle.window_stream.proofs.Changes.{same_changes}
@@ -21,7 +21,7 @@ module _ (scan : Scan) (is : IsScan scan) where
   pub scan_small : scan.events.size ≤ MAX_WINDOW
   scan_small = omega (arith, small (since_of scan.follows) (open_in scan.events) scan.rest.now is.begun)
 
-  pub event_moved : (n m : ℕ) → Shows (items.Event n m) (front_at scan) → EventMoves (since_of scan.follows) (open_in scan.events) scan.rest.now n m
+  pub event_moved : (n m : ℕ) → ShowsEvent scan n m → EventMoves (since_of scan.follows) (open_in scan.events) scan.rest.now n m
   event_moved n m found = event_moves (since_of scan.follows) (open_in scan.events) scan.rest.now n found.0 m is.bytes is.begun found.1
 
   pub mark_moved : (n p : ℕ) → Shows (items.Mark n p) (front_at scan) → MarkMoves (since_of scan.follows) (open_in scan.events) scan.rest.now is.begun.changes n p

@@ -1,9 +1,10 @@
 -- How far a stream is scanned.
 use Rattle.std.specs.Prelude.{◌≡◌, ℕ, ◌-◌, ◌<◌, List, ◌++◌, length, drop, slice_index, Option, Some, None, Result, Ok, Err}
+use Rattle.bus_types.specs.declared.change.Change.{Change}
 use Rattle.bus_types.specs.declared.fault.NoMemory.{NoMemory}
 use Rattle.bus_types.specs.Window.{Span}
 use Rattle.event_codec.specs.Items.{Since, Open, Front, front_of, since_of, open_in}
-use Rattle.event_codec.specs.Items.Front.{Unfinished, Refused}
+use Rattle.event_codec.specs.Items.Front.{Unfinished, Refused, AnEvent}
 use Rattle.event_codec.specs.Streams.{Begun, Come, after_windows, windows_bytes}
 use Rattle.window_stream.specs.declared.scan.Scan.{Scan}
 use Rattle.window_stream.specs.declared.scan.Stop.{Stop}
@@ -38,6 +39,10 @@ pub record IsScan (scan : Scan) : Type 0 where
 -- what stands behind the events
 abbrev pub front_at : Scan → Front
 front_at scan = front_of (since_of scan.follows) (open_in scan.events) (drop scan.events.size scan.rest.now)
+
+-- an event of this SCN and of so many bytes stands there
+abbrev pub ShowsEvent : Scan → ℕ → ℕ → Type 0
+ShowsEvent scan scn size = (c : Change) × (front_at scan ≡ AnEvent scn c size)
 
 -- the bytes that aren't scanned
 abbrev pub unscanned : Scan → ℕ

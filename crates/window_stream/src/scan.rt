@@ -2,7 +2,7 @@ ghost use Rattle.std.specs.Prelude.{◌≡◌, ◌<◌, List, IfOk, OnErr};
 ghost use Rattle.bus_types.specs.Window.{Span};
 ghost use Rattle.event_codec.specs.Items.{since_of, open_in, Shows};
 ghost use Rattle.event_codec.specs.Streams.{Begun};
-ghost use Rattle.window_stream.specs.Scan.{IsScan, front_at, unscanned, MovesOn, Advances, Reaches, AppendsSome};
+ghost use Rattle.window_stream.specs.Scan.{IsScan, front_at, ShowsEvent, unscanned, MovesOn, Advances, Reaches, AppendsSome};
 
 use crate::decode::changes_of;
 use bus_types::{NoMemory, Window};
@@ -36,7 +36,7 @@ enum Step<'a> {
 // Behind one more event.
 fn with_event<'a>(scan: Scan<'a>, scn: u64, size: usize) -> Scan<'a>
     requires begun { IsScan scan }
-    requires found { Shows (Item.Event scn size) (front_at scan) }
+    requires found { ShowsEvent scan scn size }
     ensures moves { (windows : List Span) → MovesOn scan.entry result windows windows }
     ensures less { unscanned result < unscanned scan.entry }
 {
@@ -90,7 +90,7 @@ fn advance<'a>(alloc: Global, scan: Scan<'a>, whole: &mut Vec<Window>) -> Result
     match item_front(scan.follows, scan.events, behind) {
         Item::Unfinished => Ok(Step::At(Stop::Unfinished)),
         Item::Refused => Ok(Step::At(Stop::Refused)),
-        Item::Event { scn, size } => Ok(Step::On(with_event(scan, scn, size))),
+        Item::Event { scn, size, .. } => Ok(Step::On(with_event(scan, scn, size))),
         Item::Mark { scn, prev } => Ok(Step::On(with_mark(alloc, scan, scn, prev, whole)?)),
     }
 }

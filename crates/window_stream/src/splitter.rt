@@ -1,4 +1,4 @@
-ghost use Rattle.std.specs.Prelude.{◌≡◌, ◌+◌, ◌<◌, ◌≤◌, ◌^◌, [], length, drop};
+ghost use Rattle.std.specs.Prelude.{◌≡◌, ◌+◌, ◌<◌, ◌≤◌, ◌^◌, [], None, length, drop};
 ghost use Rattle.window_stream.specs.Stream.{Split, new_split, Feeds, FeedsGood};
 
 use crate::scan::{Stop, scan_all};
@@ -76,16 +76,9 @@ impl Splitter {
 
     /// Takes the next piece of the stream, and appends the windows that became whole to `whole`. `Bad` comes exactly
     /// where a complete head can't stand, after the windows before it were given, and each later call answers the same.
-    /// After want of memory the splitter and the list are as before.
+    /// After want of memory the splitter and the list are as before. A stream that isn't bad is shorter than 2^64 bytes;
+    /// one that is bad takes a piece of any length.
     pub fn feed(&mut self, piece: &[u8], whole: &mut Vec<Window>) -> Result<(), SplitFault>
-        requires { self.old.given + length self.old.rest + length piece.now < 2 ^ 64 }
-        ensures { Feeds result self.old piece.now self.new whole.old.items whole.new.items }
-    {
-        self.take(piece, whole)
-    }
-
-    // As `feed`. A stream that is bad takes a piece of any length.
-    pub(crate) fn take(&mut self, piece: &[u8], whole: &mut Vec<Window>) -> Result<(), SplitFault>
         requires { self.old.bad ≡ None → self.old.given + length self.old.rest + length piece.now < 2 ^ 64 }
         ensures { Feeds result self.old piece.now self.new whole.old.items whole.new.items }
     {
@@ -99,7 +92,7 @@ impl Splitter {
         }
     }
 
-    // As `take`, where nothing is left from before: only what is left behind the last window is copied.
+    // As `feed`, where nothing is left from before: only what is left behind the last window is copied.
     fn take_first(&mut self, piece: &[u8], whole: &mut Vec<Window>) -> Result<(), SplitFault>
         requires good { self.old.bad ≡ None }
         requires none_left { self.old.rest ≡ [] }
@@ -127,7 +120,7 @@ impl Splitter {
         }
     }
 
-    // As `take`, where something is left from before.
+    // As `feed`, where something is left from before.
     fn take_more(&mut self, piece: &[u8], whole: &mut Vec<Window>) -> Result<(), SplitFault>
         requires good { self.old.bad ≡ None }
         requires short { self.old.given + length self.old.rest + length piece.now < 2 ^ 64 }

@@ -1,0 +1,4 @@
+pub mod Rooms
+pub mod Pages
+pub mod Reading
+pub mod Storing

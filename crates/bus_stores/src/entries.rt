@@ -1,0 +1,181 @@
+ghost use Rattle.std.specs.Prelude.{◌≡◌, ◌≤◌, ◌++◌, [], ◌∷◌, length, map, IfOk, OnOk, OnErr};
+ghost use Rattle.bus_types.specs.declared.change.RowName.{RowName};
+ghost use Rattle.bus_types.specs.Change.{name_of};
+ghost use Rattle.bus_types.specs.Rows.{pair_of, page_of};
+ghost use Rattle.bus_types.specs.Table.{row_after, rows_after, payload_at};
+ghost use Rattle.bus_stores.specs.Keeper.{IsTable};
+ghost use Rattle.bus_stores.specs.Entries.{row_in, rows_in, HasRoom, HaveRoom, bound_of};
+
+use bus_types::{Change, Cursor, NoMemory, Payload, Row, RowName};
+use std::alloc::Global;
+use std::collections::BTreeMap;
+use std::ops::Bound;
+
+/// Names in order, each with its row's payload, or with room for one.
+pub(crate) type Entries = BTreeMap<RowName, Option<Payload>>;
+
+/// Makes the changes, in order, or none of them. It takes time in proportion to the changes, and a factor that is the
+/// logarithm of the number of entries.
+pub(crate) fn change(
+    alloc: Global,
+    entries: &mut Entries,
+    changes: &[Change],
+) -> Result<(), NoMemory>
+    ensures ok { OnOk result (rows_in entries.new.entries ≡ rows_after (rows_in entries.old.entries) changes.now) }
+    ensures err { OnErr result (rows_in entries.new.entries ≡ rows_in entries.old.entries) }
+{
+    let copies = copy_changes(alloc, changes)?;
+    let made = make_room(entries, changes);
+    if made.is_ok() {
+        write(entries, copies);
+    }
+    drop_room(entries, changes);
+    made
+}
+
+// Equal changes, in the same order.
+fn copy_changes(alloc: Global, changes: &[Change]) -> Result<Vec<Change>, NoMemory>
+    ensures { IfOk result (λ copies. copies.items ≡ changes.now) }
+{
+    let mut copies = Vec::with_capacity(alloc, changes.len())?;
+    for change in changes {
+        copies.push(change.copy(alloc)?)?;
+    }
+    Ok(copies)
+}
+
+// Makes room for each name that changes. Rows stay as they are, and so does room.
+fn make_room(entries: &mut Entries, changes: &[Change]) -> Result<(), NoMemory>
+    ensures rows { rows_in entries.new.entries ≡ rows_in entries.old.entries }
+    ensures room { OnOk result (HaveRoom entries.new.entries changes.now) }
+{
+    for change in changes {
+        make_room_for(entries, change.name())?;
+    }
+    Ok(())
+}
+
+fn make_room_for(entries: &mut Entries, name: RowName) -> Result<(), NoMemory>
+    ensures rows { rows_in entries.new.entries ≡ rows_in entries.old.entries }
+    ensures room { OnOk result (HasRoom entries.new.entries name) }
+    ensures kept { (q : RowName) → HasRoom entries.old.entries q → HasRoom entries.new.entries q }
+{
+    if entries.contains_key(&name) {
+        return Ok(());
+    }
+    entries.insert(name, None)?;
+    Ok(())
+}
+
+// Makes changes for which there is room, in order. It takes no memory.
+fn write(entries: &mut Entries, changes: Vec<Change>)
+    requires { HaveRoom entries.old.entries changes.items }
+    ensures { rows_in entries.new.entries ≡ rows_after (rows_in entries.old.entries) changes.items }
+{
+    for change in changes {
+        write_one(entries, change);
+    }
+}
+
+fn write_one(entries: &mut Entries, change: Change)
+    requires { HasRoom entries.old.entries (name_of change) }
+    ensures rows { rows_in entries.new.entries ≡ row_after (rows_in entries.old.entries) (name_of change) change.put }
+    ensures kept { (q : RowName) → HasRoom entries.old.entries q → HasRoom entries.new.entries q }
+{
+    let name = change.name();
+    let before: Result<_, _> = entries.insert(name, change.put);
+    let _ = before.unwrap();
+}
+
+// Drops the room that these changes left without a row.
+fn drop_room(entries: &mut Entries, changes: &[Change])
+    ensures { rows_in entries.new.entries ≡ rows_in entries.old.entries }
+{
+    for change in changes {
+        drop_room_for(entries, &change.name());
+    }
+}
+
+fn drop_room_for(entries: &mut Entries, name: &RowName)
+    ensures { rows_in entries.new.entries ≡ rows_in entries.old.entries }
+{
+    if let Some(None) = entries.get(name) {
+        entries.remove(name);
+    }
+}
+
+/// The first `max` rows after the cursor, or those there are. It takes time in proportion to these rows, and the
+/// logarithm of the number of entries.
+#[tactic(auto, using(crate::proofs::Rooms::map_table))]
+pub(crate) fn page(
+    alloc: Global,
+    entries: &Entries,
+    cursor: &Cursor,
+    max: usize,
+) -> Result<Vec<Row>, NoMemory>
+    ensures rows { IfOk result (λ page. map pair_of page.items ≡ page_of cursor.now max (rows_in entries.now.entries)) }
+    ensures ordered { IsTable (rows_in entries.now.entries) }
+{
+    let mut page = Vec::new(alloc);
+    for (name, put) in entries.range((start_of(cursor), Bound::Unbounded)) {
+        if page.len() >= max {
+            return Ok(page);
+        }
+        push_row(alloc, &mut page, name, put)?;
+    }
+    Ok(page)
+}
+
+// Where the entries after a cursor begin.
+fn start_of(cursor: &Cursor) -> Bound<RowName>
+    ensures { result ≡ bound_of cursor.now }
+{
+    match *cursor {
+        Cursor::Start => Bound::Unbounded,
+        Cursor::After { source, key } => Bound::Excluded(RowName { source, key }),
+    }
+}
+
+// Appends an entry's row, where it has one.
+fn push_row(
+    alloc: Global,
+    page: &mut Vec<Row>,
+    name: &RowName,
+    put: &Option<Payload>,
+) -> Result<(), NoMemory>
+    ensures { OnOk result (map pair_of page.new.items ≡ map pair_of page.old.items ++ row_in name.now put.now) }
+{
+    let Some(payload) = put else {
+        return Ok(());
+    };
+    page.push(Row {
+        source: name.source,
+        key: name.key,
+        payload: payload.copy(alloc)?,
+    })?;
+    Ok(())
+}
+
+/// The payload of a row, where there is one.
+pub(crate) fn payload(
+    alloc: Global,
+    entries: &Entries,
+    name: &RowName,
+) -> Result<Option<Payload>, NoMemory>
+    ensures { IfOk result (λ payload. payload ≡ payload_at (rows_in entries.now.entries) name.now) }
+{
+    let _rising = entries.len();
+    let Some(put) = entries.get(name) else {
+        return Ok(None);
+    };
+    copy_put(alloc, put)
+}
+
+fn copy_put(alloc: Global, put: &Option<Payload>) -> Result<Option<Payload>, NoMemory>
+    ensures { IfOk result (λ copy. copy ≡ put.now) }
+{
+    match put {
+        None => Ok(None),
+        Some(payload) => Ok(Some(payload.copy(alloc)?)),
+    }
+}

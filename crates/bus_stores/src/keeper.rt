@@ -1,0 +1,73 @@
+ghost use Rattle.std.specs.Prelude.{◌≡◌, ◌<◌, IfOk, OnOk, IfSome};
+ghost use Rattle.bus_types.specs.Causes.{Rose};
+ghost use Rattle.bus_types.specs.Rows.{page_of, IsPage};
+ghost use Rattle.bus_stores.specs.Keeper.{KeeperState, Reads, Commits, BothTold, IsTable, move_of, payload_of};
+
+use bus_types::{Change, Cursor, Key, MarkText, NoMemory as OutOfMemory, Payload, Rows};
+use std::alloc::Global;
+
+/// Why a keeper did not do what it was asked.
+#[derive(Clone, Copy, Debug, PartialEq, Eq)]
+pub enum StoreFault {
+    /// The store failed. It comes only where the keeper's count of faults rose. After a commit the rows and the mark
+    /// are those before it or those after it, and the mark tells which.
+    Failed,
+    /// Memory ran out. The rows and the mark are as before.
+    NoMemory,
+}
+
+impl From<OutOfMemory> for StoreFault {
+    ghost use Rattle.std.specs.Prelude.{◌≡◌};
+    ghost use Rattle.bus_stores.specs.declared.keeper.StoreFault.TheVariants as faults;
+
+    ghost from_gives = { λ _ e. e ≡ faults.NoMemory };
+
+    fn from(_: OutOfMemory) -> Self {
+        StoreFault::NoMemory
+    }
+}
+
+/// A stop that a commit meets.
+#[derive(Clone, Copy, Debug, PartialEq, Eq)]
+pub enum Stop {
+    /// Before it counts: the rows and the mark stay as they are.
+    Before,
+    /// After it counts: the rows and the mark are those that it sets.
+    After,
+}
+
+/// A table of rows and at most one mark. A new one has neither.
+///
+/// A keeper may tell its rows and its mark, a number of its calls, and its stops: the marks that its commits set, the
+/// stop that the next commit meets, and whether it is sound, which says that a call fails only where a commit meets an
+/// armed stop. What it tells it tells from then on. It always tells how often it failed.
+pub trait Keeper {
+    /// What it tells of itself.
+    ghost state: { Self → KeeperState };
+
+    /// The mark, where one is set.
+    fn mark(&mut self, alloc: Global) -> Result<Option<MarkText>, StoreFault>
+        ensures { Reads (λ c. c.mark) (state self.old) (state self.new) result };
+
+    /// Clears the rows where `clear` is true, then makes the changes in order, then sets the mark: all of it or none.
+    fn commit(
+        &mut self,
+        alloc: Global,
+        clear: bool,
+        batch: &[Change],
+        mark: &MarkText,
+    ) -> Result<(), StoreFault>
+        ensures { Commits (move_of clear batch.now mark.now) (state self.old) (state self.new) result };
+
+    /// The first `max` rows after the cursor, or those there are, in order of source and key. `max` is at least 1.
+    fn rows_after(&mut self, alloc: Global, cursor: &Cursor, max: usize) -> Result<Rows, StoreFault>
+        requires { 0 < max }
+        ensures read { Reads (λ c. page_of cursor.now max c.rows) (state self.old) (state self.new) result }
+        ensures ordered { OnOk result (IfSome (state self.old).content (λ c. IsTable c.rows)) }
+        ensures page { IfOk result (λ rows. IsPage cursor.now max rows) }
+        ensures counted { OnOk result (BothTold Rose (state self.old).calls (state self.new).calls) };
+
+    /// The payload of a row, where there is one.
+    fn row(&mut self, alloc: Global, source: u16, key: &Key) -> Result<Option<Payload>, StoreFault>
+        ensures { Reads (payload_of source key.now) (state self.old) (state self.new) result };
+}

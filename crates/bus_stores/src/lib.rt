@@ -1,0 +1,14 @@
+//! Stores of rows and of a mark: the trait that every store of the bus keeps to, and a store in memory. It stands on
+//! `bus_types`. The layers above keep rows and marks through the trait `Keeper` alone, and never learn whether they
+//! lie in memory or in a database.
+#![tactic(auto)]
+
+mod entries;
+mod keeper;
+mod memory;
+mod plan;
+mod table;
+
+pub use keeper::{Keeper, Stop, StoreFault};
+pub use memory::MemoryKeeper;
+pub use plan::Fail;

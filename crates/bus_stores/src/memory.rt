@@ -1,0 +1,208 @@
+ghost use Rattle.std.specs.Prelude.{◌≡◌, ◌≤◌, Some, None, IfOk, OnOk, OnErr, IfSome};
+ghost use Rattle.bus_types.specs.Causes.{Rose};
+ghost use Rattle.bus_types.specs.Rows.{page_of, IsPage};
+ghost use Rattle.bus_stores.specs.Keeper.{Reads, Commits, BothTold, IsTable, move_of, payload_of};
+ghost use Rattle.bus_stores.specs.Memory.{new_store, told_by, last_mark, stop_at, read_stop, commit_stop, FailsAt, CountsCall, begun, failed, stopped, stored};
+
+use crate::keeper::{Keeper, Stop, StoreFault};
+use crate::plan::{Fail, Plan, stop_at};
+use crate::table::Table;
+use bus_types::{Change, Cursor, Key, MarkText, NoMemory, Payload, RowName, Rows};
+use std::alloc::Global;
+use std::marker::Model;
+
+/// A keeper in memory, which tells everything and fails at the calls that it was told. It is sound where it was told
+/// none.
+///
+/// A commit takes time and memory in proportion to its batch and its mark, with a factor that is the logarithm of the
+/// number of rows; one that clears also drops the rows that there were. Each commit leaves its mark in memory.
+#[derive(Debug, Drop)]
+pub struct MemoryKeeper {
+    table: Table,
+    marks: Vec<MarkText>,
+    plan: Plan,
+}
+
+impl Model for MemoryKeeper {
+    ghost use Rattle.bus_stores.specs.Memory.{MemoryStore};
+
+    ghost Value = { MemoryStore };
+
+    ghost view = { λ k. record {
+      rows = k.table;
+      marks = k.marks.items;
+      armed = k.plan.armed;
+      fails = k.plan.fails.items;
+      calls = k.plan.calls;
+      faults = k.plan.faults;
+    } };
+}
+
+impl MemoryKeeper {
+    /// A keeper without rows and without a mark, which fails at the calls that are listed. Calls are numbered from 0,
+    /// over all calls of the trait [`Keeper`].
+    pub fn new(alloc: Global, fails: &[Fail]) -> Result<MemoryKeeper, NoMemory>
+        ensures { IfOk result (λ keeper. keeper ≡ new_store fails.now) }
+    {
+        Ok(MemoryKeeper {
+            table: Table::new(alloc),
+            marks: Vec::new(alloc),
+            plan: Plan::new(alloc, fails)?,
+        })
+    }
+
+    /// How many calls of the trait were made. It stops at 18446744073709551615.
+    pub fn calls(&self) -> u64
+        ensures { result ≡ self.now.calls }
+    {
+        self.plan.calls
+    }
+
+    /// Lets the next commit fail, after it counts where `after` is true and else before. A second arm takes the place
+    /// of the first.
+    pub fn arm(&mut self, after: bool)
+        ensures { self.new ≡ record self.old { armed = Some (stop_at after) } }
+    {
+        self.plan.armed = Some(stop_at(after));
+    }
+
+    // Counts a call, and answers the stop that is listed for it.
+    fn next_call(&mut self) -> Option<Stop>
+        ensures listed { result ≡ read_stop self.old }
+        ensures begun { self.new ≡ begun self.old }
+        ensures later { self.old.calls ≤ self.new.calls }
+    {
+        self.plan.next_call()
+    }
+
+    // Fails a call that reads.
+    fn fail(&mut self) -> StoreFault
+        ensures fault { result ≡ StoreFault.Failed }
+        ensures failed { self.new ≡ failed self.old }
+        ensures later { self.old.faults ≤ self.new.faults }
+    {
+        self.plan.fault()
+    }
+
+    // Begins a call that reads: it fails where it is listed.
+    #[tactic(auto, using(crate::proofs::Storing::reading_steps))]
+    fn begin(&mut self) -> Result<(), StoreFault>
+        ensures read { Reads (λ c. tt) (told_by self.old) (told_by self.new) result }
+        ensures exact { FailsAt (read_stop self.old) result }
+        ensures counted { CountsCall self.old self.new }
+    {
+        match self.next_call() {
+            None => Ok(()),
+            Some(_) => Err(self.fail()),
+        }
+    }
+
+    // Begins a commit: counts it, and answers the stop that it meets.
+    fn begin_commit(&mut self) -> Option<Stop>
+        ensures met { result ≡ commit_stop self.old }
+        ensures begun { self.new ≡ begun self.old }
+        ensures later { self.old.calls ≤ self.new.calls }
+    {
+        let armed = self.plan.armed;
+        armed.or(self.next_call())
+    }
+
+    // Fails a commit, after which no stop is armed.
+    fn stop(&mut self) -> StoreFault
+        ensures fault { result ≡ StoreFault.Failed }
+        ensures stopped { self.new ≡ stopped self.old }
+        ensures later { self.old.faults ≤ self.new.faults }
+    {
+        self.plan.armed = None;
+        self.plan.fault()
+    }
+
+    // Makes what a commit asks for, all of it or none.
+    fn store(
+        &mut self,
+        alloc: Global,
+        clear: bool,
+        batch: &[Change],
+        mark: &MarkText,
+    ) -> Result<(), NoMemory>
+        ensures ok { OnOk result (self.new ≡ stored (move_of clear batch.now mark.now) self.old) }
+        ensures err { OnErr result (self.new ≡ self.old) }
+    {
+        let mark = MarkText::new(alloc, mark.bytes())?;
+        self.marks.reserve(1)?;
+        self.table.change(alloc, clear, batch)?;
+        self.marks.push_reserved(mark);
+        Ok(())
+    }
+}
+
+// A copy of the last mark, where there is one.
+fn copy_last(alloc: Global, marks: &[MarkText]) -> Result<Option<MarkText>, NoMemory>
+    ensures { IfOk result (λ mark. mark ≡ last_mark marks.now) }
+{
+    match marks.last() {
+        None => Ok(None),
+        Some(mark) => Ok(Some(MarkText::new(alloc, mark.bytes())?)),
+    }
+}
+
+impl Keeper for MemoryKeeper {
+    ghost state = { told_by };
+
+    #[tactic(auto, using(crate::proofs::Reading::reading))]
+    fn mark(&mut self, alloc: Global) -> Result<Option<MarkText>, StoreFault>
+        ensures read { Reads (λ c. c.mark) (told_by self.old) (told_by self.new) result }
+        ensures exact { FailsAt (read_stop self.old) result }
+        ensures counted { CountsCall self.old self.new }
+    {
+        self.begin()?;
+        Ok(copy_last(alloc, &self.marks)?)
+    }
+
+    /// An armed stop goes before a listed one.
+    #[tactic(auto, using(crate::proofs::Storing::commit_steps))]
+    fn commit(
+        &mut self,
+        alloc: Global,
+        clear: bool,
+        batch: &[Change],
+        mark: &MarkText,
+    ) -> Result<(), StoreFault>
+        ensures commit { Commits (move_of clear batch.now mark.now) (told_by self.old) (told_by self.new) result }
+        ensures exact { FailsAt (commit_stop self.old) result }
+        ensures counted { CountsCall self.old self.new }
+    {
+        match self.begin_commit() {
+            None => Ok(self.store(alloc, clear, batch, mark)?),
+            Some(Stop::Before) => Err(self.stop()),
+            Some(Stop::After) => {
+                self.store(alloc, clear, batch, mark)?;
+                Err(self.stop())
+            }
+        }
+    }
+
+    #[tactic(auto, using(crate::proofs::Reading::reading))]
+    fn rows_after(&mut self, alloc: Global, cursor: &Cursor, max: usize) -> Result<Rows, StoreFault>
+        ensures read { Reads (λ c. page_of cursor.now max c.rows) (told_by self.old) (told_by self.new) result }
+        ensures ordered { OnOk result (IfSome (told_by self.old).content (λ c. IsTable c.rows)) }
+        ensures page { IfOk result (λ rows. IsPage cursor.now max rows) }
+        ensures counted { OnOk result (BothTold Rose (told_by self.old).calls (told_by self.new).calls) }
+        ensures exact { FailsAt (read_stop self.old) result }
+        ensures numbered { CountsCall self.old self.new }
+    {
+        self.begin()?;
+        Ok(self.table.page(alloc, cursor, max)?)
+    }
+
+    #[tactic(auto, using(crate::proofs::Reading::reading))]
+    fn row(&mut self, alloc: Global, source: u16, key: &Key) -> Result<Option<Payload>, StoreFault>
+        ensures read { Reads (payload_of source key.now) (told_by self.old) (told_by self.new) result }
+        ensures exact { FailsAt (read_stop self.old) result }
+        ensures counted { CountsCall self.old self.new }
+    {
+        self.begin()?;
+        let name = RowName { source, key: *key };
+        Ok(self.table.payload(alloc, &name)?)
+    }
+}

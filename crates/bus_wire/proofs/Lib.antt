@@ -1,0 +1,5 @@
+pub mod Steps
+pub mod Runs
+pub mod Walk
+pub mod Uniqueness
+pub mod Replies

@@ -1,0 +1,64 @@
+ghost use Rattle.std.specs.Prelude.{◌≡◌, MatchOption, MatchResult, IfOk, IfErr, ◌++◌, List, ℕ};
+ghost use Rattle.event_codec.specs.Frames.{answer_bytes};
+ghost use Rattle.event_codec.specs.declared.reply.Shape.{Shape};
+ghost use Rattle.bus_wire.specs.Lawful.{IsLawful, IsFaultAt, IsAnswerTo, HasNoAnswer, EndsAt};
+ghost use Rattle.bus_wire.specs.Run.{BeginsWith};
+
+use crate::ask::Ask;
+use crate::fault::BadReply;
+use crate::run::check_windows;
+use bus_types::MAX_SCN;
+use event_codec::{Answer, Shape, answer_at};
+
+// The bytes of an answer.
+const ANSWER_SIZE: usize = 9;
+
+// The lawful answer that stands in front.
+fn answer_in_front(ask: &Ask, bytes: &[u8]) -> Option<Answer>
+    ensures { MatchOption result (HasNoAnswer ask.now bytes.now) (λ answer. BeginsWith ask.now answer bytes.now) }
+{
+    let answer = answer_at(bytes, 0)?;
+    if !ask.is_answered_by(&answer) {
+        return None;
+    }
+    Some(answer)
+}
+
+// Bytes that begin with a lawful answer.
+fn check_answer(ask: &Ask, answer: Answer, bytes: &[u8]) -> Result<Shape, BadReply>
+    requires { BeginsWith ask.now answer bytes.now }
+    ensures { MatchResult result (λ shape. IsLawful ask.now bytes.now shape) (λ fault. IsFaultAt ask.now bytes.now fault.place) }
+{
+    if bytes.len() > ANSWER_SIZE {
+        return Err(BadReply { place: 9 });
+    }
+    Ok(Shape::Only(answer))
+}
+
+// Bytes that begin with no lawful answer.
+fn check_items(ask: &Ask, bytes: &[u8]) -> Result<Shape, BadReply>
+    ensures { MatchResult result (λ shape. IsLawful ask.now bytes.now shape) (λ fault. EndsAt ask.now bytes.now fault.place) }
+{
+    match ask {
+        Ask::Stream { scn, filter, .. } => {
+            let (count, last) = check_windows(*scn, MAX_SCN, filter, bytes)?;
+            Ok(Shape::Windows { count, last })
+        }
+        Ask::Start { .. } => Err(BadReply { place: 0 }),
+    }
+}
+
+/// What the body of a reply to an ask is. `BadReply` comes exactly where it is no lawful reply, with the place of the
+/// first item that can't stand: where no whole item stands, where an item breaks a rule of the reply, or behind an answer
+/// or the 32nd window. Where the bytes end too early, it is the place of the item that is missing or cut. It takes no
+/// memory.
+pub fn check_reply(ask: &Ask, bytes: &[u8]) -> Result<Shape, BadReply>
+    ensures ok { IfOk result (λ shape. IsLawful ask.now bytes.now shape) }
+    ensures place { IfErr result (λ fault. IsFaultAt ask.now bytes.now fault.place) }
+    ensures unlawful { IfErr result (λ _. (shape : Shape) → IsLawful ask.now bytes.now shape → ⊥) }
+{
+    match answer_in_front(ask, bytes) {
+        Some(answer) => check_answer(ask, answer, bytes),
+        None => check_items(ask, bytes),
+    }
+}

@@ -1,0 +1,47 @@
+-- Marks: their rules, and the one text of each.
+use Rattle.std.specs.Prelude.{ℕ, ◌<◌, ◌≤◌, ◌^◌, List, ◌++◌, codes, decimal}
+use Rattle.bus_types.specs.declared.row.Cursor.{Cursor}
+use Rattle.bus_types.specs.declared.row.Cursor.TheVariants.{Start, After}
+use Rattle.bus_types.specs.declared.limits.TheConstants.{MAX_SCN}
+use Rattle.bus_types.specs.Change.{IsKey}
+use Rattle.bus_types.specs.Script.{key_text}
+use Rattle.checkpoint.specs.declared.mark.Mark.{Mark}
+use Rattle.checkpoint.specs.declared.mark.Mark.TheVariants.{Online, Delta, Snapshot, Scanned, Catchup}
+
+-- the numbers of a cursor are in the ranges of their types
+abbrev pub IsCursor : Cursor → Type 0
+IsCursor Start = Unit {0}
+IsCursor (After source key) = (source < 2 ^ 16) × IsKey key
+
+-- a mark keeps the rule of its kind, and its SCNs are at most MAX_SCN
+abbrev pub IsMark : Mark → Type 0
+IsMark (Online scn) = scn ≤ MAX_SCN
+IsMark (Delta since target cursor) = (since < target) × (target ≤ MAX_SCN) × IsCursor cursor
+IsMark (Snapshot since start top cursor) = (start ≤ top) × (since ≤ MAX_SCN) × (top ≤ MAX_SCN) × IsCursor cursor
+IsMark (Scanned since start top) = (start ≤ top) × (since ≤ MAX_SCN) × (top ≤ MAX_SCN)
+IsMark (Catchup since start target at) = (start ≤ at) × (at < target) × (since ≤ target) × (target ≤ MAX_SCN)
+
+-- `start`, or the source and the key of the row before
+abbrev pub cursor_text : Cursor → List ℕ
+cursor_text Start = codes "start"
+cursor_text (After source key) = decimal source ++ codes "/" ++ key_text key
+
+-- compact JSON, the members in the order of their names
+abbrev pub mark_text : Mark → List ℕ
+mark_text (Online scn) = codes "{\"mode\":\"online\",\"scn\":" ++ decimal scn ++ codes "}"
+mark_text (Delta since target cursor) =
+    codes "{\"cursor\":\"" ++ cursor_text cursor ++ codes "\",\"mode\":\"delta\",\"since\":" ++ decimal since ++ codes ",\"target\":" ++ decimal target ++ codes "}"
+mark_text (Snapshot since start top cursor) =
+    codes "{\"cursor\":\"" ++ cursor_text cursor ++ codes "\",\"mode\":\"snapshot\",\"since\":" ++ decimal since ++ codes ",\"start\":" ++ decimal start ++ codes ",\"top\":" ++ decimal top ++ codes "}"
+mark_text (Scanned since start top) =
+    codes "{\"mode\":\"scanned\",\"since\":" ++ decimal since ++ codes ",\"start\":" ++ decimal start ++ codes ",\"top\":" ++ decimal top ++ codes "}"
+mark_text (Catchup since start target at) =
+    codes "{\"at\":" ++ decimal at ++ codes ",\"mode\":\"catchup\",\"since\":" ++ decimal since ++ codes ",\"start\":" ++ decimal start ++ codes ",\"target\":" ++ decimal target ++ codes "}"
+
+-- the SCN that the consumer stands at, or stood at before it began to move
+abbrev pub floor_of : Mark → ℕ
+floor_of (Online scn) = scn
+floor_of (Delta since target cursor) = since
+floor_of (Snapshot since start top cursor) = since
+floor_of (Scanned since start top) = since
+floor_of (Catchup since start target at) = since

@@ -1,0 +1,5 @@
+pub mod Selection
+pub mod Rising
+pub mod Spelling
+pub mod Grammar
+pub mod Reading

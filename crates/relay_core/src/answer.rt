@@ -1,0 +1,66 @@
+ghost use Rattle.std.specs.Prelude.{◌≡◌, ◌≤◌, ◌++◌, IfOk, OnOk, OnErr};
+ghost use Rattle.bus_types.specs.declared.limits.TheConstants.{MAX_SCN};
+ghost use Rattle.bus_types.specs.Relay.{answer_of};
+ghost use Rattle.partition_filter.specs.Selection.{test_of};
+ghost use Rattle.event_codec.specs.Frames.{answer_number, answer_bytes};
+ghost use Rattle.event_codec.specs.Reply.{IsServed, IsInRange, reply_bytes, answer_sent};
+
+use crate::buffer::Buffer;
+use bus_io::GrowingSink;
+use bus_types::NoMemory;
+use event_codec::{Answer, Served, answer_bytes};
+use partition_filter::Filter;
+use std::alloc::Global;
+use std::mem;
+
+/// Appends the bytes of the relay's reply to who asks for the windows after `scn` that the filter leaves, in at most `max`
+/// bytes: the windows, or the answer that says why there are none. After want of memory the reply is as before.
+pub fn relay_answer<B: Buffer>(
+    alloc: Global,
+    buffer: &B,
+    scn: u64,
+    filter: &Filter,
+    max: u32,
+    reply: &mut Vec<u8>,
+) -> Result<Served, NoMemory>
+    ensures served { IfOk result (λ served. IsServed served (answer_of (B.relay buffer.now) scn (test_of filter.now) max)) }
+    ensures bytes { OnOk result (reply.new.items ≡ reply.old.items ++ reply_bytes (answer_of (B.relay buffer.now) scn (test_of filter.now) max)) }
+    ensures err { OnErr result (reply.new.items ≡ reply.old.items) }
+{
+    let before = reply.len();
+    let mut sink = GrowingSink::new(mem::replace(reply, Vec::new(alloc)));
+    let served = buffer.serve(scn, filter, max, &mut sink);
+    *reply = sink.into_bytes();
+    let Ok(served) = served else {
+        reply.truncate(before);
+        return Err(NoMemory);
+    };
+    let Ok(()) = append_answer(served, reply) else {
+        reply.truncate(before);
+        return Err(NoMemory);
+    };
+    Ok(served)
+}
+
+// Appends the answer, where no windows were served.
+fn append_answer(served: Served, reply: &mut Vec<u8>) -> Result<(), NoMemory>
+    requires { IsInRange served }
+    ensures ok { OnOk result (reply.new.items ≡ reply.old.items ++ answer_sent served) }
+    ensures err { OnErr result (reply.new.items ≡ reply.old.items) }
+{
+    match served {
+        Served::Windows { .. } => Ok(()),
+        Served::NotFound(floor) => append(&Answer::NotFound(floor), reply),
+        Served::Empty(end) => append(&Answer::Empty(end), reply),
+        Served::TooSmall(need) => append(&Answer::TooSmall(need), reply),
+    }
+}
+
+fn append(answer: &Answer, reply: &mut Vec<u8>) -> Result<(), NoMemory>
+    requires { answer_number answer.now ≤ MAX_SCN }
+    ensures ok { OnOk result (reply.new.items ≡ reply.old.items ++ answer_bytes answer.now) }
+    ensures err { OnErr result (reply.new.items ≡ reply.old.items) }
+{
+    reply.extend_from_slice(&answer_bytes(answer))?;
+    Ok(())
+}
