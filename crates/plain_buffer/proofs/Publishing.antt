@@ -3,11 +3,11 @@ use Rattle.std.proofs.Common.{◌≡◌, ℕ, ◌+◌, ◌<◌, ◌≤◌, true,
 use Rattle.bus_types.specs.declared.limits.TheConstants.{MAX_SCN}
 use Rattle.bus_types.specs.Window.{Span, span_size, IsSpan}
 use Rattle.bus_types.specs.Timeline.{Follows, IsTimelineFrom, end_from, total_size}
-use Rattle.bus_types.specs.Relay.{Room, sizes, sum_of, has_room, surplus, Relay, published}
+use Rattle.bus_types.specs.Relay.{sizes, has_room, surplus, Relay, published}
 use Rattle.bus_types.proofs.Stretches.{end_from-append, timeline-append, timeline-take, timeline-drop}
 use Rattle.bus_types.proofs.Floors.{roomy_parts, surplus_roomy}
 use Rattle.std.proofs.lemmas.List.{drop-map}
-use Rattle.plain_buffer.specs.Buffer.{IsRoom, IsBuffer, Evicts}
+use Rattle.plain_buffer.specs.Buffer.{IsBuffer, Evicts}
 use Rattle.plain_buffer.proofs.Evicting.{total_is}
 
 -- the bytes of windows and of one more

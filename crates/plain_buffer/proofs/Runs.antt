@@ -4,7 +4,6 @@ use Rattle.std.proofs.lemmas.List.{drop_more}
 use Rattle.bus_types.specs.declared.change.Change.{Change}
 use Rattle.bus_types.specs.Change.{Test, change_size, accepted, changes_size}
 use Rattle.bus_types.specs.Window.{Span, span_size}
-use Rattle.bus_types.specs.Timeline.{end_from, total_size}
 use Rattle.bus_types.specs.Cut.{cut, cuts, cut_size}
 use Rattle.bus_types.specs.Relay.{longest_run, most_windows}
 use Rattle.bus_types.proofs.Runs.{run_takes, run_full}

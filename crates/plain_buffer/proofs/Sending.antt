@@ -1,5 +1,5 @@
 -- Parts of a reply, sent one after the other.
-use Rattle.std.proofs.Common.{◌≡◌, ℕ, ◌+◌, ◌-◌, ◌<◌, ◌≤◌, Bool, true, false, cond, suc, List, [], ◌∷◌, ◌++◌, length, length-append, get_or, take, drop, Option, Some, None, Result, Ok, Err, refl, sym, ap, subst, ◌∙◌, arith}
+use Rattle.std.proofs.Common.{◌≡◌, ℕ, ◌+◌, ◌-◌, ◌<◌, ◌≤◌, Bool, true, false, cond, suc, List, [], ◌∷◌, ◌++◌, length, length-append, get_or, take, drop, Option, Result, Ok, Err, sym, ap, subst, ◌∙◌, arith}
 use Rattle.std.proofs.lemmas.List.{take-append-le, drop_more, drop_all}
 use Rattle.std.proofs.Math.Seq.{take-append-add}
 use Rattle.std.proofs.KnownBytes.{Appends-nil, Appends-trans}
@@ -79,10 +79,10 @@ sizes_left cs i c lt is = ap changes_size (drop_more cs i c lt ∙ ap (λ (d : C
 -- an accepted change takes no more bytes than the change
 pub accepted_short : (test : Test) (scn : ℕ) (c : Change) → length (accepted_bytes test scn c) ≤ change_size c
 accepted_short test scn c = chosen_short (test c.source c.key) (event_bytes (record { scn = scn; change = c })) (change_size c) (event_length (record { scn = scn; change = c }))
-    where
-      chosen_short : (b : Bool) (bytes : List ℕ) (n : ℕ) → length bytes ≡ n → length (cond b bytes []) ≤ n
-      chosen_short true bytes n e = omega arith
-      chosen_short false bytes n e = omega arith
+  where
+    chosen_short : (b : Bool) (bytes : List ℕ) (n : ℕ) → length bytes ≡ n → length (cond b bytes []) ≤ n
+    chosen_short true bytes n e = omega arith
+    chosen_short false bytes n e = omega arith
 
 -- ---- windows
 

@@ -1,5 +1,5 @@
 -- What is served from a place on.
-use Rattle.std.proofs.Common.{◌≡◌, ℕ, ◌+◌, ◌-◌, ◌<◌, ◌≤◌, nat_lt, List, [], ◌∷◌, length, length-take, length-drop, get_or, take, drop, Option, Err, refl, sym, ap, subst, ◌∙◌, arith}
+use Rattle.std.proofs.Common.{◌≡◌, ℕ, ◌+◌, ◌<◌, ◌≤◌, nat_lt, List, [], ◌∷◌, length, length-take, length-drop, get_or, take, drop, Option, Err, sym, ap, subst, ◌∙◌, arith}
 use Rattle.std.proofs.lemmas.Bool.{cond-true, cond-false, lt-ltb, le-ltb}
 use Rattle.std.proofs.lemmas.List.{drop_more, length-map}
 use Rattle.std.specs.Io.KnownBytes.{Appends}
@@ -46,9 +46,9 @@ served_run test ws from max number scn size w lt is fits t =
     let long = length-map (drop from ws) (cut test) in
     record {
       answer =
-      ap (λ (left : List Span). fitting max (cuts test left)) first
-      ∙ cond-false (nat_lt max (cut_size test w)) (TooSmall (cut_size test w)) (Windows (longest_run most_windows max (cuts test (w ∷ drop (from + 1) ws)))) (le-ltb max (cut_size test w) fits)
-      ∙ ap (λ (left : List Span). Windows (longest_run most_windows max (cuts test left))) (sym first);
+          ap (λ (left : List Span). fitting max (cuts test left)) first
+          ∙ cond-false (nat_lt max (cut_size test w)) (TooSmall (cut_size test w)) (Windows (longest_run most_windows max (cuts test (w ∷ drop (from + 1) ws)))) (le-ltb max (cut_size test w) fits)
+          ∙ ap (λ (left : List Span). Windows (longest_run most_windows max (cuts test left))) (sym first);
       told = record { some = omega arith; count = count; last = t.last; bytes = omega (arith, t.bytes) };
       within = omega (arith, length-drop from ws);
       front = sym (take-cuts test number (drop from ws)) ∙ ap (λ n. take n all) count ∙ sym longest.front;

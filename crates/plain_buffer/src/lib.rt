@@ -10,3 +10,5 @@ mod send;
 
 pub use buffer::PlainBuffer;
 
+#[cfg(test)]
+mod tests;

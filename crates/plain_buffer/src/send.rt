@@ -29,12 +29,7 @@ fn send_bytes<W: Sink>(bytes: &[u8], done: u64, out: &mut W) -> Result<u64, Writ
 }
 
 // The event of a change.
-fn send_event<W: Sink>(
-    scn: u64,
-    change: &Change,
-    done: u64,
-    out: &mut W,
-) -> Result<u64, WriteFault>
+fn send_event<W: Sink>(scn: u64, change: &Change, done: u64, out: &mut W) -> Result<u64, WriteFault>
     requires { done + change_size change.now < 2 ^ 64 }
     ensures sends { Sends (W.written out.old) (W.written out.new) done result (event_bytes (record { scn = scn; change = change.now })) }
     ensures cause { HasCause (W.faults out.old) (W.faults out.new) result }

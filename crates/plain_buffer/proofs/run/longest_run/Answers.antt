@@ -1,5 +1,4 @@
-use Rattle.std.proofs.Common.{◌≡◌, ◌+◌, ◌-◌, ◌<◌, List, [], length, drop, subst, ◌∙◌, arith}
-use Rattle.bus_types.specs.Window.{Span}
+use Rattle.std.proofs.Common.{◌≡◌, ◌+◌, ◌-◌, ◌<◌, ◌≤◌, [], drop, subst, arith}
 use Rattle.bus_types.specs.Cut.{cuts}
 use Rattle.bus_types.specs.Relay.{longest_run, most_windows}
 use Rattle.plain_buffer.specs.Run.{Tells}
@@ -13,7 +12,9 @@ loop-count-preserved g c =
     let run = longest_run most_windows c.args.max (cuts test (drop c.args.from ws)) in
     let size = c.cut_size-size.result in
     let within = c.in-Some.ensures.item.3.0 in
-    let told = run_step test ws run c.args.from c.loop-count.count c.loop-count.last c.loop-count.bytes c.args.max size c.in-Some.window.now c.loop-count-test.true c.loop-count.invariant.within within c.in-Some.ensures.lookup c.cut_size-size.ensures.value c.if-size-max.false c.loop-count.invariant.tells in
+    let few : c.loop-count.count < most_windows = omega arith in
+    let fits : size ≤ c.args.max - c.loop-count.bytes = omega arith in
+    let told = run_step test ws run c.args.from c.loop-count.count c.loop-count.last c.loop-count.bytes c.args.max size c.in-Some.window.now few c.loop-count.invariant.within within c.in-Some.ensures.lookup c.cut_size-size.ensures.value fits c.loop-count.invariant.tells in
     record {
       within = omega arith;
       range = omega (arith, c.scn-last.ensures.value, c.scn-last.ensures.fits.scn);

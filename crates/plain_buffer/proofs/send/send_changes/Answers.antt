@@ -1,7 +1,5 @@
-use Rattle.std.proofs.Common.{◌+◌, ◌∙◌, drop, arith}
+use Rattle.std.proofs.Common.{arith}
 use Rattle.std.proofs.lemmas.Result.{err_from_is_err_and}
-use Rattle.bus_types.specs.Change.{accepted}
-use Rattle.event_codec.specs.Bytes.{changes_bytes}
 use Rattle.event_codec.specs.Writing.{accepted_bytes}
 use Rattle.plain_buffer.proofs.Sending.{awaits_more, awaits_stop, awaits_end, changes_left, changes_over, sizes_left, accepted_short}
 use Rattle.plain_buffer.proofs.send.send_changes.Goals as goal

@@ -1,4 +1,4 @@
-use Rattle.std.proofs.Common.{◌++◌, length, length-append, sym, ap, ◌∙◌, subst, refl, arith, Err}
+use Rattle.std.proofs.Common.{length, length-append, sym, ap, ◌∙◌, subst, refl, arith, Err}
 use Rattle.std.proofs.lemmas.Result.{err_from_is_err_and}
 use Rattle.bus_types.specs.Change.{accepted}
 use Rattle.event_codec.specs.Bytes.{changes_bytes, mark_bytes}

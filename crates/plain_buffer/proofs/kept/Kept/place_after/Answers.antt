@@ -1,7 +1,6 @@
-use Rattle.std.proofs.Common.{◌≡◌, ℕ, ◌<◌, leb, length, length-drop, drop, sym, ap, subst, ◌∙◌, arith, rules, tests}
+use Rattle.std.proofs.Common.{leb, length, length-drop, ap, arith, rules, tests}
 use Rattle.std.proofs.lemmas.List.Sorted.{IsPartitionPoint-from_clause, IsPartitionedBy-leb}
 use Rattle.bus_types.specs.Window.{Span}
-use Rattle.bus_types.specs.Timeline.{end_from, windows_between}
 use Rattle.bus_types.proofs.Stretches.{timeline_rises}
 use Rattle.bus_types.proofs.Floors.{end_found}
 use Rattle.bus_types.proofs.Places.{rises_in_order, drop_place}
