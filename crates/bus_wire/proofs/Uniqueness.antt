@@ -1,5 +1,5 @@
 -- A reply is lawful in one way at most, or at fault at one place.
-use Rattle.std.proofs.Common.{◌≡◌, ℕ, ◌+◌, ◌<◌, ◌≤◌, inl, inr, List, [], ◌∷◌, ◌++◌, length, get_or, Result, Ok, Err, refl, sym, ap, ◌∙◌, append_assoc, append-nil, arith}
+use Rattle.std.proofs.Common.{◌≡◌, ℕ, ◌≤◌, inl, inr, List, [], ◌∷◌, ◌++◌, length, get_or, Result, Ok, Err, sym, ap, ◌∙◌, append_assoc, append-nil, arith}
 use Rattle.std.specs.Prelude.{IfErr, MatchResult}
 use Rattle.std.proofs.lemmas.List.{length-append}
 use Rattle.bus_types.specs.declared.change.Change.{Change}
@@ -11,7 +11,7 @@ use Rattle.event_codec.specs.declared.answer.Answer.{Answer}
 use Rattle.event_codec.specs.declared.answer.Answer.TheVariants.{NotFound, Empty, TooSmall, Behind, LogGone, StartDelta, StartSnapshot, Target}
 use Rattle.event_codec.specs.declared.reply.Shape.{Shape}
 use Rattle.event_codec.specs.declared.reply.Shape.TheVariants as shapes
-use Rattle.event_codec.specs.Bytes.{event_bytes, mark_bytes, changes_bytes, window_bytes}
+use Rattle.event_codec.specs.Bytes.{event_bytes, mark_bytes, changes_bytes}
 use Rattle.event_codec.specs.Frames.{answer_kind, answer_bytes}
 use Rattle.event_codec.specs.Streams.{windows_bytes}
 use Rattle.event_codec.proofs.Begun.{event}
@@ -20,7 +20,7 @@ use Rattle.event_codec.proofs.Frames.{one_answer}
 use Rattle.bus_wire.specs.declared.ask.Ask.{Ask}
 use Rattle.bus_wire.specs.declared.fault.BadReply.{BadReply}
 use Rattle.bus_wire.specs.declared.ask.Ask.TheVariants.{Stream, Start}
-use Rattle.bus_wire.specs.Lawful.{IsAnswerTo, IsRun, HoldsRun, HoldsWindows, IsLawful, HasNoAnswer, EndsAt, IsFaultAt}
+use Rattle.bus_wire.specs.Lawful.{IsAnswerTo, IsRun, HoldsWindows, IsLawful, HasNoAnswer, EndsAt, IsFaultAt}
 use Rattle.bus_wire.proofs.Walk.{one_run, no_run_stops, one_place}
 
 -- ---- no window begins as an answer
