@@ -1,6 +1,6 @@
 -- A reply is lawful in one way at most, or at fault at one place.
 use Rattle.std.proofs.Common.{◌≡◌, ℕ, ◌≤◌, inl, inr, List, [], ◌∷◌, ◌++◌, length, get_or, Result, Ok, Err, sym, ap, ◌∙◌, append_assoc, append-nil, arith}
-use Rattle.std.specs.Prelude.{IfErr, MatchResult}
+use Rattle.std.specs.Prelude.{IfOk, IfErr, MatchResult}
 use Rattle.std.proofs.lemmas.List.{length-append}
 use Rattle.bus_types.specs.declared.change.Change.{Change}
 use Rattle.bus_types.specs.declared.limits.TheConstants.{MAX_SCN}
@@ -123,3 +123,9 @@ pub items_refused : (ask : Ask) (bytes : List ℕ) (result : Result Shape BadRep
     → IfErr result (λ _. (shape : Shape) → IsLawful ask bytes shape → ⊥)
 items_refused ask bytes (Ok shape) none is = tt
 items_refused ask bytes (Err fault) none is = λ shape lawful. fault_is_unlawful ask bytes fault.place shape (inr (none, is)) lawful
+
+-- a lawful reply is taken, in its shape
+pub lawful_is_taken : (ask : Ask) (bytes : List ℕ) (shape : Shape) (result : Result Shape BadReply) → IfOk result (λ found. IsLawful ask bytes found) → IfErr result (λ fault. IsFaultAt ask bytes fault.place)
+    → IsLawful ask bytes shape → result ≡ Ok shape
+lawful_is_taken ask bytes shape (Ok found) taken refused lawful = ap Ok (one_shape ask bytes found shape taken lawful)
+lawful_is_taken ask bytes shape (Err fault) taken refused lawful = absurd (fault_is_unlawful ask bytes fault.place shape refused lawful)
