@@ -1,13 +1,12 @@
 -- Filters and their text.
-use Rattle.std.proofs.Common.{◌≡◌, ℕ, ◌+◌, ◌^◌, ◌<◌, ◌≤◌, Bool, true, false, ◌==◌, ◌&&◌, nat_lt, nat_le, inl, inr, List, [], ◌∷◌, ◌++◌, length, map, codes, Option, Some, None, Result, Ok, Err, refl, sym, ap, ◌∙◌, arith}
-use Rattle.std.specs.Prelude.{decimal, bytes_eq, IfOk}
-use Rattle.std.specs.List.{list_all, AllByRecursion, slice_split, join_with_byte}
+use Rattle.std.proofs.Common.{◌≡◌, ℕ, ◌+◌, ◌<◌, ◌≤◌, true, false, ◌==◌, ◌&&◌, nat_lt, inl, inr, List, [], ◌∷◌, length, map, codes, Option, Some, None, Result, Ok, Err, refl, sym, ap, ◌∙◌, arith, lit≤}
+use Rattle.std.specs.Prelude.{bytes_eq, IfOk}
+use Rattle.std.specs.List.{AllByRecursion, slice_split, join_with_byte}
 use Rattle.std.proofs.lemmas.Bool.{and_parts, and_from, ltb-true, ltb-false, lt-ltb, le-ltb, false_from_ne_true}
 use Rattle.std.proofs.lemmas.List.{length-map}
 use Rattle.std.proofs.lemmas.List.Splits.{join_with_byte-slice_split, length-slice_split}
 use Rattle.std.proofs.lemmas.Option.{cond_some}
 use Rattle.std.proofs.lemmas.Slice.Eq.{bytes_eq-Decides}
-use Rattle.bus_types.specs.Text.{◌>>=◌}
 use Rattle.bus_types.proofs.Cuts.{Lacks, Lacks-from_test}
 use Rattle.bus_types.proofs.Options.{bind_some, chosen}
 use Rattle.partition_filter.specs.declared.fault.FilterFault.{FilterFault}
@@ -163,3 +162,7 @@ bad (Err NoMemory) text h place is filter valid spelled = cc is
 -- what is written is read back
 pub read_back : (filter : Selection) → IsFilter filter → filter_of (filter_text filter) ≡ Ok filter
 read_back filter is = filter_again (filter_text filter) filter is refl
+
+pub short_text : (filter : Selection) → IsFilter filter → length (filter_text filter) ≤ longest_text
+short_text All is = lit≤ tt
+short_text (Rules rules) is = is.short

@@ -1,5 +1,5 @@
 -- Listed numbers and their text.
-use Rattle.std.proofs.Common.{◌≡◌, ℕ, ◌+◌, ◌^◌, ◌<◌, ◌≤◌, Bool, true, false, ◌==◌, ◌||◌, ◌&&◌, nat_le, List, [], ◌∷◌, ◌++◌, length, map, Option, Some, None, refl, sym, ap, ◌∙◌, arith, lit<}
+use Rattle.std.proofs.Common.{◌≡◌, ℕ, ◌+◌, ◌^◌, ◌<◌, ◌≤◌, Bool, true, false, ◌==◌, ◌||◌, ◌&&◌, nat_le, List, [], ◌∷◌, length, map, Some, None, refl, sym, ap, ◌∙◌, arith}
 use Rattle.std.specs.Prelude.{decimal}
 use Rattle.std.specs.List.{list_all, AllByRecursion, slice_split, join_with_byte}
 use Rattle.std.proofs.lemmas.Bool.{and_parts, and_from, leb-true, le-leb, eq-eqb}
@@ -7,7 +7,7 @@ use Rattle.std.proofs.lemmas.List.{length-map}
 use Rattle.std.proofs.lemmas.List.Folds.{list_all-append}
 use Rattle.std.proofs.lemmas.List.Splits.{slice_split_none, slice_split_at, join_with_byte-slice_split, length-slice_split}
 use Rattle.std.proofs.lemmas.Option.{cond_some}
-use Rattle.bus_types.specs.Text.{◌>>=◌, is_digit, number_of}
+use Rattle.bus_types.specs.Text.{is_digit, number_of}
 use Rattle.bus_types.proofs.Cuts.{Lacks, Lacks-from_test}
 use Rattle.bus_types.proofs.Numbers.{all_digits-decimal, number_taken, number_again}
 use Rattle.bus_types.proofs.Options.{bind_some}

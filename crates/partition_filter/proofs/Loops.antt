@@ -1,5 +1,5 @@
 -- Numbers and rules read text by text.
-use Rattle.std.proofs.Common.{◌≡◌, ℕ, ◌+◌, ◌<◌, ◌≤◌, ◌==◌, List, [], ◌∷◌, ◌++◌, length, get_or, drop, Option, Some, None, option_map, Result, Ok, Err, refl, sym, ap, ◌∙◌, append_assoc, arith}
+use Rattle.std.proofs.Common.{◌≡◌, ℕ, ◌+◌, ◌<◌, ◌≤◌, ◌==◌, List, [], ◌∷◌, ◌++◌, length, get_or, drop, Option, Some, None, option_map, Result, Ok, Err, refl, sym, ◌∙◌, append_assoc, arith}
 use Rattle.std.specs.List.{slice_split, join_with_byte}
 use Rattle.std.proofs.lemmas.List.{drop_more, drop_all, append-nil, length-append}
 use Rattle.std.proofs.lemmas.List.Splits.{join_with_byte-slice_split, length-slice_split}
@@ -15,10 +15,6 @@ use Rattle.partition_filter.specs.Reading.{Refuses, Finds}
 -- what was read, before what is still to read
 abbrev pub with_front : List ℕ → Option (List ℕ) → Option (List ℕ)
 with_front front read = option_map (λ numbers. front ++ numbers) read
-
-pub with_front-none : (read : Option (List ℕ)) → with_front [] read ≡ read
-with_front-none None = refl
-with_front-none (Some numbers) = refl
 
 with_front-cons : (front : List ℕ) (n : ℕ) (read : Option (List ℕ))
     → with_front (front ++ n ∷ []) read ≡ with_front front (read >>= λ numbers. Some (n ∷ numbers))

@@ -1,14 +1,13 @@
 -- Rules and their text.
-use Rattle.std.proofs.Common.{◌≡◌, ℕ, ◌+◌, ◌-◌, ◌^◌, ◌<◌, ◌≤◌, Bool, true, false, ◌==◌, ◌||◌, ◌&&◌, nat_le, List, [], ◌∷◌, ◌++◌, length, map, codes, Option, Some, None, refl, sym, ap, ◌∙◌, arith, lit<}
+use Rattle.std.proofs.Common.{◌≡◌, ℕ, ◌-◌, ◌^◌, ◌<◌, ◌≤◌, Bool, true, false, ◌==◌, ◌||◌, nat_le, List, [], ◌∷◌, ◌++◌, length, Option, Some, None, refl, ap, ◌∙◌, arith, lit<}
 use Rattle.std.specs.Prelude.{decimal}
-use Rattle.std.specs.List.{list_all, AllByRecursion}
-use Rattle.std.proofs.lemmas.Bool.{and_parts, and_from, leb-true, le-leb, eqb-true}
-use Rattle.std.proofs.lemmas.Bool.Decides.{nat_tests}
+use Rattle.std.specs.List.{list_all}
+use Rattle.std.proofs.lemmas.Bool.{and_from, leb-true, le-leb, eqb-true}
 use Rattle.std.proofs.lemmas.List.{nil_from_length}
 use Rattle.std.proofs.lemmas.List.Elements.{All-nil, All-cons, All-append}
 use Rattle.std.proofs.lemmas.List.Folds.{list_all-append}
 use Rattle.std.proofs.lemmas.Option.{cond_some}
-use Rattle.bus_types.specs.Text.{◌>>=◌, is_digit, number_of, cut_at, max_u64}
+use Rattle.bus_types.specs.Text.{is_digit, number_of, cut_at, max_u64}
 use Rattle.bus_types.proofs.Cuts.{Lacks, Lacks-from_test, cut_taken, cut_again, cut_none}
 use Rattle.bus_types.proofs.Numbers.{all_digits-decimal, number_taken, number_again}
 use Rattle.bus_types.proofs.Options.{bind_some}

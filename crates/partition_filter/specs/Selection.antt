@@ -1,5 +1,5 @@
 -- What a filter means: which rows it accepts.
-use Rattle.std.specs.Prelude.{ℕ, ◌%◌, ◌/◌, Bool, true, ◌==◌, ◌&&◌, List, Vec, Option, Some, None}
+use Rattle.std.specs.Prelude.{◌%◌, ◌/◌, Bool, true, ◌==◌, ◌&&◌, List, Vec, Option, Some, None}
 use Rattle.std.specs.Global.{Global}
 use Rattle.std.specs.List.{list_any}
 use Rattle.bus_types.specs.declared.change.Key.{Key}

@@ -4,7 +4,7 @@ ghost use Rattle.partition_filter.specs.declared.fault.FilterFault.TheVariants a
 use bus_types::NoMemory as OutOfMemory;
 use std::alloc::{AllocError, AllocFailed};
 
-/// Why a filter was not read.
+/// Why a filter was not read. Nothing is kept of it.
 #[derive(Clone, Copy, Debug, PartialEq, Eq)]
 pub enum FilterFault {
     /// The text is no filter.

@@ -1,4 +1,4 @@
-ghost use Rattle.std.specs.Prelude.{◌≡◌, ◌↔◌, ◌++◌, ℕ, IfOk, OnOk, IsTrue, string_bytes};
+ghost use Rattle.std.specs.Prelude.{◌≡◌, ◌↔◌, ◌≤◌, ◌++◌, ℕ, length, IfOk, OnOk, IsTrue, string_bytes};
 ghost use Rattle.partition_filter.specs.Grammar.{filter_of};
 ghost use Rattle.partition_filter.specs.Reading.{Reads};
 ghost use Rattle.partition_filter.specs.Selection.Selection.{All};
@@ -17,7 +17,8 @@ use std::marker::Model;
 /// The most bytes that the text of a filter has.
 const MAX_TEXT: usize = 4096;
 
-/// Which rows are meant, by source and key: all, or those that its rules accept. Contracts see what it selects.
+/// Which rows are meant, by source and key: all, or those that its rules accept, of which each is of another source.
+/// Contracts see what it selects.
 #[derive(Debug, Drop)]
 pub struct Filter {
     rules: Option<Vec<Rule>>,
@@ -42,8 +43,10 @@ impl Filter {
         Filter { rules: None }
     }
 
-    /// The filter that a text spells: `all`, or 1 to 64 rules with `;` between two, of strictly rising sources.
-    /// `BadFilter` comes exactly where the text is no filter, with the place of the fault.
+    /// The filter that a text of at most 4,096 bytes spells: `all`, or 1 to 64 rules with `;` between two, of strictly
+    /// rising sources. `S*` means all rows of source S, `S%N:B,B` those whose key has a listed remainder by N, and
+    /// `S/R:B,B` those whose key divided by R, rounded down, is listed. `BadFilter` comes exactly where the text is no
+    /// filter, and tells the place of the fault. `NoMemory` comes where memory ran out, whatever the text is.
     pub fn read(alloc: Global, text: &str) -> Result<Filter, FilterFault>
         ensures exact { Reads result (filter_of text.now) }
 
@@ -54,7 +57,7 @@ impl Filter {
         Filter::read_bytes(alloc, text.as_bytes())
     }
 
-    /// The same, of the bytes of a text.
+    /// As [`Filter::read`], of the bytes of a text. Bytes that are no text are no filter.
     pub fn read_bytes(alloc: Global, text: &[u8]) -> Result<Filter, FilterFault>
         ensures exact { Reads result (filter_of text.now) }
 
@@ -65,9 +68,11 @@ impl Filter {
         selection(alloc, text)
     }
 
-    /// Its text, of at most 4,096 bytes, from which [`Filter::read`] reads it back.
+    /// Its text, of at most 4,096 bytes, from which [`Filter::read`] reads it back. `NoMemory` comes where memory ran
+    /// out; the filter stays as it is.
     pub fn write(&self, alloc: Global) -> Result<String, NoMemory>
         ensures text { IfOk result (λ text. string_bytes text ≡ filter_text self.now) }
+        ensures short { length (filter_text self.now) ≤ 4096 }
         ensures read_back { filter_of (filter_text self.now) ≡ Ok self.now }
     {
         let mut text = String::new(alloc);
@@ -75,7 +80,7 @@ impl Filter {
         Ok(text)
     }
 
-    /// An equal filter.
+    /// An equal filter. `NoMemory` comes where memory ran out.
     pub fn copy(&self, alloc: Global) -> Result<Filter, NoMemory>
         ensures { IfOk result (λ filter. filter ≡ self.now) }
     {
@@ -89,7 +94,8 @@ impl Filter {
 
     /// Whether it means every row by its text `all`.
     pub fn is_all(&self) -> bool
-        ensures { IsTrue result ↔ (self.now ≡ All) }
+        ensures value { IsTrue result ↔ (self.now ≡ All) }
+        ensures valid { IsFilter self.now }
     {
         self.rules.is_none()
     }
