@@ -1,7 +1,7 @@
 -- What a relay serves is a lawful reply.
-use Rattle.std.proofs.Common.{◌≡◌, ℕ, zero, suc, ◌+◌, ◌<◌, ◌≤◌, inl, inr, Bool, true, false, cond, eqb, ltb, leb, ◌||◌, ◌==◌, IsTrue, List, [], ◌∷◌, ◌++◌, length, take, map, refl, sym, subst, ◌∙◌, arith}
+use Rattle.std.proofs.Common.{◌≡◌, ℕ, zero, suc, ◌<◌, ◌≤◌, inl, inr, Bool, true, false, cond, ltb, leb, ◌==◌, IsTrue, List, [], ◌∷◌, length, take, map, refl, sym, subst, arith}
 use Rattle.std.specs.List.{AllByRecursion, list_any}
-use Rattle.std.proofs.lemmas.Bool.{cases_Bool, and_from, lt-ltb, le-leb, eq-eqb, eqb-true, ltb-true, ltb-false, leb-true, leb-false, or_cases}
+use Rattle.std.proofs.lemmas.Bool.{and_from, lt-ltb, le-leb, eq-eqb, eqb-true, ltb-false, leb-false, or_cases}
 use Rattle.std.proofs.lemmas.List.{length-map}
 use Rattle.bus_types.specs.declared.change.Change.{Change}
 use Rattle.bus_types.specs.declared.limits.TheConstants.{MAX_SCN, MAX_WINDOW}
@@ -9,16 +9,16 @@ use Rattle.bus_types.specs.Change.{Test, accepted, changes_size, AreChanges}
 use Rattle.bus_types.specs.Window.{Span, span_size, IsSpan}
 use Rattle.bus_types.specs.Timeline.{Follows, IsTimelineFrom, IsTimeline, end_from, windows_between}
 use Rattle.bus_types.specs.Cut.{cut, cuts}
-use Rattle.bus_types.specs.Relay.{Served, NotFound, Empty, TooSmall, Windows, most_windows, longest_run, IsLongestRun, fitting, stream, is_place, Relay, answer_of, StandsFor}
+use Rattle.bus_types.specs.Relay.{Served, NotFound, Empty, TooSmall, Windows, most_windows, longest_run, fitting, stream, is_place, Relay, answer_of, StandsFor}
 use Rattle.bus_types.proofs.Stretches.{Rises, between_in, between_cases, between_rises, timeline_rises, between_timeline, between_end}
 use Rattle.bus_types.proofs.Runs.{longest_run_is, run_takes}
 use Rattle.bus_types.proofs.Floors.{floor_is, stands_answers}
 use Rattle.partition_filter.specs.Selection.{Selection, test_of}
 use Rattle.partition_filter.specs.Selection.Selection.{All, Rules}
 use Rattle.event_codec.specs.Items.{Since}
-use Rattle.event_codec.specs.Streams.{Comes, Come, after_window}
+use Rattle.event_codec.specs.Streams.{Come, after_window}
 use Rattle.bus_wire.specs.declared.ask.Ask.TheVariants.{Stream}
-use Rattle.bus_wire.specs.Lawful.{has_enough, AreAccepted, IsAskedFor, after_floor, IsRun}
+use Rattle.bus_wire.specs.Lawful.{has_enough, IsAskedFor, after_floor, IsRun}
 use Rattle.bus_wire.specs.Served.{Serves, IsLawfullyServed}
 
 -- ---- cut windows

@@ -1,6 +1,6 @@
 -- Bytes of a reply that are read so far, in the code's words.
-use Rattle.std.proofs.Common.{◌≡◌, ℕ, ◌+◌, ◌<◌, ◌≤◌, IsTrue, true, false, ◌&&◌, eqb, ltb, None, length}
-use Rattle.std.proofs.lemmas.Bool.{and_parts, and_from, lt-ltb, ltb-true, eq-eqb, eqb-true}
+use Rattle.std.proofs.Common.{◌≡◌, ℕ, ◌+◌, ◌<◌, true, false, ◌&&◌, eqb, ltb, leb, None, length}
+use Rattle.std.proofs.lemmas.Bool.{and_parts, and_from, lt-ltb, ltb-true, eq-eqb, eqb-true, leb-true}
 use Rattle.bus_types.specs.declared.change.Key.TheVariants.{Long}
 use Rattle.bus_types.specs.Relay.{most_windows}
 use Rattle.partition_filter.specs.Selection.{test_of}
@@ -14,17 +14,19 @@ use Rattle.bus_wire.proofs.Steps.{EventGoes, event_goes, mark_goes, run_is_whole
 
 module _ (check : Windows) (run : Run) (is : IsReached check run) (room : run.count < most_windows) where
   -- behind an event
-  pub event_read : (n source key m : ℕ) → Shows (items.Event n source key m) (front_at check run) → n ≤ check.top → IsTrue (test_of check.filter.now source (Long key))
+  pub event_read : (n source key m : ℕ) → Shows (items.Event n source key m) (front_at check run) → (leb n check.top && test_of check.filter.now source (Long key)) ≡ true
       → EventGoes check.floor check.top check.filter.now check.bytes.now (since_of run.follows) (open_in run.events) run.count run.place n m
-  event_read n source key m found below accepted =
+  event_read n source key m found can =
+      let parts = and_parts (leb n check.top) (test_of check.filter.now source (Long key)) can in
       event_goes check.floor check.top check.filter.now check.bytes.now (since_of run.follows) (open_in run.events) run.count run.place n
-      (record { source = source; key = Long key; put = found.0 }) m is.reached is.bytes room found.1 below accepted
+      (record { source = source; key = Long key; put = found.0 }) m is.reached is.bytes room found.1 (leb-true n check.top parts.0) parts.1
 
   -- behind a mark
-  pub mark_read : (n p : ℕ) → Shows (items.Mark n p) (front_at check run) → n ≤ check.top → IsTrue (has_enough check.filter.now run.events.count)
+  pub mark_read : (n p : ℕ) → Shows (items.Mark n p) (front_at check run) → (leb n check.top && has_enough check.filter.now run.events.count) ≡ true
       → Reached check.floor check.top check.filter.now check.bytes.now (record { floor = n; started = true }) (record { scn = None; count = 0; size = 0 }) (run.count + 1) (run.place + 17)
-  mark_read n p found below enough =
-      mark_goes check.floor check.top check.filter.now check.bytes.now (since_of run.follows) (open_in run.events) run.count run.place n p is.reached is.bytes room found below enough
+  mark_read n p found can =
+      let parts = and_parts (leb n check.top) (has_enough check.filter.now run.events.count) can in
+      mark_goes check.floor check.top check.filter.now check.bytes.now (since_of run.follows) (open_in run.events) run.count run.place n p is.reached is.bytes room found (leb-true n check.top parts.0) parts.1
 
 module _ (check : Windows) (run : Run) (is : IsReached check run) where
   -- the reply is whole

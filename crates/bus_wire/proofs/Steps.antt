@@ -1,5 +1,5 @@
 -- Bytes of a reply that are read so far, and one more item.
-use Rattle.std.proofs.Common.{◌≡◌, ℕ, ◌+◌, ◌<◌, ◌≤◌, ◌⊎◌, inl, inr, true, false, IsTrue, List, [], ◌∷◌, ◌++◌, length, drop, flat_map, Some, None, refl, sym, ap, subst, ◌∙◌, append_assoc, append-nil, arith}
+use Rattle.std.proofs.Common.{◌≡◌, ℕ, ◌+◌, ◌<◌, ◌≤◌, ◌⊎◌, inl, inr, true, false, IsTrue, List, [], ◌∷◌, ◌++◌, length, drop, Some, None, refl, sym, ap, subst, ◌∙◌, append_assoc, append-nil, arith}
 use Rattle.std.specs.List.{AllByRecursion}
 use Rattle.std.proofs.lemmas.Bool.{cases_lt}
 use Rattle.std.proofs.lemmas.List.{drop_at, length-append, nil_from_length}
@@ -14,13 +14,13 @@ use Rattle.partition_filter.specs.Selection.{Selection, test_of}
 use Rattle.event_codec.specs.Bytes.{event_bytes, mark_bytes, changes_bytes, window_bytes}
 use Rattle.event_codec.specs.Items.{Since, Open, open_of, has_right_scn, has_right_prev, front_of}
 use Rattle.event_codec.specs.Items.Front.{AnEvent, AMark}
-use Rattle.event_codec.specs.Streams.{Comes, Come, after_window, after_windows, windows_bytes, Begins}
+use Rattle.event_codec.specs.Streams.{Comes, after_window, after_windows, windows_bytes, Begins}
 use Rattle.event_codec.proofs.Numbers.{IsBytes, IsBytes-drop}
 use Rattle.event_codec.proofs.Fronts.{event_taken, mark_taken}
 use Rattle.event_codec.proofs.Begun.{event, change_positive, changes_bytes-push, changes_size-append, changes_length, are_changes_push, open_count, open_size, open-push, right_scn}
 use Rattle.event_codec.proofs.Windows.{window_length}
 use Rattle.event_codec.proofs.Streams.{come_append, after_append}
-use Rattle.bus_wire.specs.Lawful.{has_enough, AreAccepted, IsAskedFor, after_floor, AreAskedFor, IsRun, HoldsRun, can_stand, Reading, StopsAt}
+use Rattle.bus_wire.specs.Lawful.{has_enough, IsAskedFor, after_floor, HoldsRun, can_stand, Reading, StopsAt}
 use Rattle.bus_wire.specs.Run.{Reached}
 
 -- ---- lists

@@ -1,6 +1,6 @@
 -- A reply is lawful in one way at most, or at fault at one place.
-use Rattle.std.proofs.Common.{◌≡◌, ℕ, ◌+◌, ◌<◌, ◌≤◌, inl, inr, List, [], ◌∷◌, ◌++◌, length, get_or, Result, Ok, Err, refl, sym, ap, ◌∙◌, append_assoc, append-nil, arith}
-use Rattle.std.specs.Prelude.{IfErr, MatchResult}
+use Rattle.std.proofs.Common.{◌≡◌, ℕ, ◌≤◌, inl, inr, List, [], ◌∷◌, ◌++◌, length, get_or, Result, Ok, Err, sym, ap, ◌∙◌, append_assoc, append-nil, arith}
+use Rattle.std.specs.Prelude.{IfOk, IfErr, MatchResult}
 use Rattle.std.proofs.lemmas.List.{length-append}
 use Rattle.bus_types.specs.declared.change.Change.{Change}
 use Rattle.bus_types.specs.declared.limits.TheConstants.{MAX_SCN}
@@ -11,7 +11,7 @@ use Rattle.event_codec.specs.declared.answer.Answer.{Answer}
 use Rattle.event_codec.specs.declared.answer.Answer.TheVariants.{NotFound, Empty, TooSmall, Behind, LogGone, StartDelta, StartSnapshot, Target}
 use Rattle.event_codec.specs.declared.reply.Shape.{Shape}
 use Rattle.event_codec.specs.declared.reply.Shape.TheVariants as shapes
-use Rattle.event_codec.specs.Bytes.{event_bytes, mark_bytes, changes_bytes, window_bytes}
+use Rattle.event_codec.specs.Bytes.{event_bytes, mark_bytes, changes_bytes}
 use Rattle.event_codec.specs.Frames.{answer_kind, answer_bytes}
 use Rattle.event_codec.specs.Streams.{windows_bytes}
 use Rattle.event_codec.proofs.Begun.{event}
@@ -20,7 +20,7 @@ use Rattle.event_codec.proofs.Frames.{one_answer}
 use Rattle.bus_wire.specs.declared.ask.Ask.{Ask}
 use Rattle.bus_wire.specs.declared.fault.BadReply.{BadReply}
 use Rattle.bus_wire.specs.declared.ask.Ask.TheVariants.{Stream, Start}
-use Rattle.bus_wire.specs.Lawful.{IsAnswerTo, IsRun, HoldsRun, HoldsWindows, IsLawful, HasNoAnswer, EndsAt, IsFaultAt}
+use Rattle.bus_wire.specs.Lawful.{IsAnswerTo, IsRun, HoldsWindows, IsLawful, HasNoAnswer, EndsAt, IsFaultAt}
 use Rattle.bus_wire.proofs.Walk.{one_run, no_run_stops, one_place}
 
 -- ---- no window begins as an answer
@@ -123,3 +123,9 @@ pub items_refused : (ask : Ask) (bytes : List ℕ) (result : Result Shape BadRep
     → IfErr result (λ _. (shape : Shape) → IsLawful ask bytes shape → ⊥)
 items_refused ask bytes (Ok shape) none is = tt
 items_refused ask bytes (Err fault) none is = λ shape lawful. fault_is_unlawful ask bytes fault.place shape (inr (none, is)) lawful
+
+-- a lawful reply is taken, in its shape
+pub lawful_is_taken : (ask : Ask) (bytes : List ℕ) (shape : Shape) (result : Result Shape BadReply) → IfOk result (λ found. IsLawful ask bytes found) → IfErr result (λ fault. IsFaultAt ask bytes fault.place)
+    → IsLawful ask bytes shape → result ≡ Ok shape
+lawful_is_taken ask bytes shape (Ok found) taken refused lawful = ap Ok (one_shape ask bytes found shape taken lawful)
+lawful_is_taken ask bytes shape (Err fault) taken refused lawful = absurd (fault_is_unlawful ask bytes fault.place shape refused lawful)

@@ -1,19 +1,18 @@
 -- Bytes of a reply are read item by item in one way: where a reading stops, each reading stops.
-use Rattle.std.proofs.Common.{◌≡◌, ℕ, zero, suc, ◌+◌, ◌<◌, ◌≤◌, ◌⊎◌, inl, inr, Bool, true, false, cond, eqb, leb, ◌&&◌, IsTrue, List, [], ◌∷◌, ◌++◌, length, drop, Option, Some, None, refl, sym, ap, subst, ◌∙◌, append_assoc, append-nil, arith}
+use Rattle.std.proofs.Common.{◌≡◌, ℕ, zero, suc, ◌<◌, ◌≤◌, ◌⊎◌, inl, inr, Bool, true, false, cond, eqb, IsTrue, List, [], ◌∷◌, ◌++◌, length, drop, Option, Some, None, refl, sym, ap, subst, ◌∙◌, append_assoc, append-nil, arith}
 use Rattle.std.specs.List.{AllByRecursion}
 use Rattle.std.proofs.lemmas.Bool.{and_from, le-leb, eq-eqb, ne_eqb}
 use Rattle.std.proofs.lemmas.List.{drop_at, length-append}
 use Rattle.std.proofs.lemmas.Option.{same_Some, none-some}
 use Rattle.bus_types.specs.declared.change.Change.{Change}
-use Rattle.bus_types.specs.declared.limits.TheConstants.{MAX_SCN}
-use Rattle.bus_types.specs.Change.{AreChanges, change_size, changes_size}
+use Rattle.bus_types.specs.Change.{change_size}
 use Rattle.bus_types.specs.Window.{Span}
 use Rattle.bus_types.specs.Relay.{most_windows}
 use Rattle.partition_filter.specs.Selection.{Selection, test_of}
 use Rattle.event_codec.specs.Bytes.{event_bytes, mark_bytes, changes_bytes, window_bytes}
-use Rattle.event_codec.specs.Items.{Since, Open, open_of, has_right_scn, Front, front_of}
+use Rattle.event_codec.specs.Items.{Since, Open, open_of, Front, front_of}
 use Rattle.event_codec.specs.Items.Front.{Unfinished, Refused, AnEvent, AMark}
-use Rattle.event_codec.specs.Streams.{Comes, Come, after_window, after_windows, windows_bytes, Begins}
+use Rattle.event_codec.specs.Streams.{Comes, Come, after_windows, windows_bytes, Begins}
 use Rattle.event_codec.proofs.EventBytes.{event_length}
 use Rattle.event_codec.proofs.Fronts.{event_seen, mark_seen}
 use Rattle.event_codec.proofs.Begun.{event, is_event, changes_size-append, open_count, open_size}

@@ -1,5 +1,6 @@
-ghost use Rattle.std.specs.Prelude.{◌≡◌, ◌<◌, false, None, MatchOption, MatchResult};
+ghost use Rattle.std.specs.Prelude.{◌≡◌, ◌<◌, ◌&&◌, nat_le, false, None, MatchOption, MatchResult};
 ghost use Rattle.bus_types.specs.Relay.{most_windows};
+ghost use Rattle.partition_filter.specs.Selection.{test_of};
 ghost use Rattle.event_codec.specs.Items.{Shows};
 ghost use Rattle.bus_wire.specs.Lawful.{has_enough, HoldsRun, StopsAt};
 ghost use Rattle.bus_wire.specs.Run.{IsReached, front_at, Halts, Goes, is_whole};
@@ -47,7 +48,7 @@ impl Run {
     }
 }
 
-// Whether a window of so many changes may stand.
+// Whether a window may have so many changes.
 fn has_enough(filter: &Filter, count: usize) -> bool
     ensures { result ≡ has_enough filter.now count }
 {
@@ -55,6 +56,20 @@ fn has_enough(filter: &Filter, count: usize) -> bool
 }
 
 impl<'a> Windows<'a> {
+    // Whether an event of a window of this SCN may stand.
+    fn takes_event(&self, scn: u64, source: u16, key: u64) -> bool
+        ensures { result ≡ (nat_le scn self.now.top && test_of self.now.filter.now source (Key.Long key)) }
+    {
+        scn <= self.top && self.filter.accepts(source, &Key::Long(key))
+    }
+
+    // Whether the mark of a window of this SCN may stand behind so many events.
+    fn takes_mark(&self, scn: u64, count: usize) -> bool
+        ensures { result ≡ (nat_le scn self.now.top && has_enough self.now.filter.now count) }
+    {
+        scn <= self.top && has_enough(self.filter, count)
+    }
+
     // Behind an event.
     fn with_event(&self, run: Run, scn: u64, source: u16, key: u64, size: usize) -> Option<Run>
         requires reached { IsReached self.now run }
@@ -62,7 +77,7 @@ impl<'a> Windows<'a> {
         requires found { Shows (Item.Event scn source key size) (front_at self.now run) }
         ensures { MatchOption result (Halts self.now run) (λ next. Goes self.now run next) }
     {
-        if scn > self.top || !self.filter.accepts(source, &Key::Long(key)) {
+        if !self.takes_event(scn, source, key) {
             return None;
         }
         let events = Events {
@@ -85,7 +100,7 @@ impl<'a> Windows<'a> {
         requires found { Shows (Item.Mark scn prev) (front_at self.now run) }
         ensures { MatchOption result (Halts self.now run) (λ next. Goes self.now run next) }
     {
-        if scn > self.top || !has_enough(self.filter, run.events.count) {
+        if !self.takes_mark(scn, run.events.count) {
             return None;
         }
         let follows = Follows {

@@ -237,7 +237,12 @@ fn the_front_of_a_stream_is_an_item_that_can_stand(rt: HostRuntime) {
         count: 1,
         size: 24,
     };
-    let event = Item::Event { scn: 10, size: 24 };
+    let event = Item::Event {
+        scn: 10,
+        source: 0,
+        key: 1,
+        size: 24,
+    };
     assert_eq!(rt; item_front(first, Events::NONE, &PUT), event);
     assert_eq!(rt;
         item_front(first, Events::NONE, &PUT[..23]),

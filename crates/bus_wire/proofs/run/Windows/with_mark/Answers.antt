@@ -4,5 +4,5 @@ use Rattle.bus_wire.proofs.run.Windows.with_mark.Goals as goal
 
 pub returns : goal.returns
 returns c =
-    let reached = mark_read c.args.self.now c.args.run c.requires.reached c.requires.room c.args.scn c.args.prev c.requires.found c.if-scn-self.false (sym c.has_enough.ensures ∙ c.if-not-has_enough.false) in
+    let reached = mark_read c.args.self.now c.args.run c.requires.reached c.requires.room c.args.scn c.args.prev c.requires.found (sym c.takes_mark.ensures ∙ c.if-not-takes_mark.false) in
     (record { bytes = c.requires.reached.bytes; fits = c.requires.reached.fits; reached = reached }, omega arith)
