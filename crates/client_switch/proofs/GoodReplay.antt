@@ -1,6 +1,6 @@
 -- Who replays what changed since its scan began: each reply of a bootstrap that is true of the timeline keeps the rows right.
 use Rattle.std.proofs.Common.{◌≡◌, ℕ, ◌<◌, ◌≤◌, Bool, true, false, cond, ◌==◌, nat_lt, List, Option, Some, None, is_some, refl, sym, ap, subst, ◌∙◌, arith, true≢false}
-use Rattle.std.proofs.lemmas.Bool.{cond_both, cond-true, cond-false, eqb-true}
+use Rattle.std.proofs.lemmas.Bool.{cond_both, cond-true, cond-false, eqb-true, eqb-false}
 use Rattle.bus_types.specs.declared.change.Change.{Change}
 use Rattle.bus_types.specs.declared.change.RowName.{RowName}
 use Rattle.bus_types.specs.Change.{Test, accepted}
@@ -13,11 +13,12 @@ use Rattle.bus_types.proofs.TableLaws.{payload_after, payload_at-after, rows_aft
 use Rattle.event_codec.specs.declared.answer.Answer.TheVariants.{Behind, LogGone}
 use Rattle.checkpoint.specs.declared.mark.Mark.{Mark}
 use Rattle.checkpoint.specs.declared.mark.Mark.TheVariants.{Online, Catchup as Replaying}
+use Rattle.checkpoint.specs.Mark.{IsMark}
 use Rattle.client_switch.specs.Moves.{Catchup, Reply, Windows, Only, changes_of, replayed}
 use Rattle.client_switch.specs.Good.{IsAsAt, IsAsWithin, changed, Good}
 use Rattle.client_switch.specs.True.{replay_of, IsBootedBy}
 use Rattle.client_switch.proofs.Payloads.{last_between-split, changed_at, unchanged, view_is}
-use Rattle.client_switch.proofs.Runs.{IsRun, run_low, run_high, run_changes}
+use Rattle.client_switch.proofs.Runs.{IsRun, run_low, run_high, run_above, run_changes}
 use Rattle.client_switch.proofs.Replies.{Keeps, good_small, good_behind, good_gone, replay_cases}
 use Rattle.client_switch.proofs.GoodOnline.{good_view}
 
@@ -66,33 +67,41 @@ good_caught_up ws test since start target rows t h g =
           was.same ∙ unchanged ws q start target was.at t c was.low was.high ∙ sym (unchanged ws q start target target t c h (omega arith))
     ] refl))
 
-good_replay_windows : (ws : List Span) (test : Test) (since start target at most : ℕ) (rows : RowList) (run : List Span) → IsTimeline ws → start ≤ at → at < target → Good ws test (Replaying since start target at) rows → IsRun ws test most_windows most at target run → Keeps ws test (Replaying since start target at) rows (Windows run)
-good_replay_windows ws test since start target at most rows run t l lt g e =
+good_replay_windows : (ws : List Span) (test : Test) (since start target at most : ℕ) (rows : RowList) (run : List Span) → IsTimeline ws → IsMark (Replaying since start target at) → Good ws test (Replaying since start target at) rows → IsRun ws test most_windows most at target run → Keeps ws test (Replaying since start target at) rows (Windows run)
+good_replay_windows ws test since start target at most rows run t m g e =
     let last = end_from at run in
+    let from : start ≤ at = m.0 in
+    let before : at < target = m.1 in
     let low = run_low ws test most_windows most at target run t e in
     let high = run_high ws test most_windows most at target run t (omega arith) e in
     let next = rows_after rows (changes_of run) in
     let further : Good ws test (Replaying since start target last) next =
     subst (λ (cs : List Change). Good ws test (Replaying since start target last) (rows_after rows cs)) (sym (run_changes ws test most_windows most at target run t e))
-    (good_replayed ws test since start target at last rows t l low high g) in
+    (good_replayed ws test since start target at last rows t from low high g) in
     record {
       good = cond_both (last == target) (Online target) (Replaying since start target last) (λ mark. Good ws test mark next)
           (λ same. good_caught_up ws test since start target next t (omega arith) (subst (λ n. Good ws test (Replaying since start target n) next) (eqb-true last target same) further))
           (λ _. further);
+      marked = cond_both (last == target) (Online target) (Replaying since start target last) IsMark
+          (λ _. m.3)
+          (λ e.
+              let other = eqb-false last target e in
+              (omega arith, omega arith, m.2, m.3));
       wished = tt;
+      lawful = run_above ws test most_windows most at target run e;
     }
 
 -- each reply to who asks for the windows of a replay
-pub good_replay : (ws : List Span) (test : Test) (since start target at most : ℕ) (rows : RowList) (reply : Reply) → IsTimeline ws → start ≤ at → at < target → Good ws test (Replaying since start target at) rows → IsBootedBy ws test (Catchup at target most) reply → Keeps ws test (Replaying since start target at) rows reply
-good_replay ws test since start target at most rows reply t l lt g s =
+pub good_replay : (ws : List Span) (test : Test) (since start target at most : ℕ) (rows : RowList) (reply : Reply) → IsTimeline ws → IsMark (Replaying since start target at) → Good ws test (Replaying since start target at) rows → IsBootedBy ws test (Catchup at target most) reply → Keeps ws test (Replaying since start target at) rows reply
+good_replay ws test since start target at most rows reply t m g s =
     let b = s.boot in
     let mark = Replaying since start target at in
     let P : Reply → Type 0 = Keeps ws test mark rows in
     let cut_windows = cuts test (windows_between at target ws) in
     subst P (sym s.is)
     (cond_both (nat_lt at b.base) (Only (LogGone b.base)) (cond (nat_lt b.high target) (Only (Behind b.high)) (replay_of b.high most cut_windows)) P
-    (λ _. good_gone ws test mark rows g b.base)
+    (λ _. good_gone ws test mark rows m g b.base)
     (λ _. cond_both (nat_lt b.high target) (Only (Behind b.high)) (replay_of b.high most cut_windows) P
-    (λ _. good_behind ws test mark rows g b.high)
-    (λ _. replay_cases P b.high most cut_windows (good_behind ws test mark rows g b.high) (good_small ws test mark rows g)
-    (λ run e. good_replay_windows ws test since start target at most rows run t l lt g e))))
+    (λ _. good_behind ws test mark rows m g b.high)
+    (λ _. replay_cases P b.high most cut_windows (good_behind ws test mark rows m g b.high) (good_small ws test mark rows m g)
+    (λ run e. good_replay_windows ws test since start target at most rows run t m g e))))

@@ -2,6 +2,7 @@ pub mod Payloads
 pub mod Cursors
 pub mod Latest
 pub mod Runs
+pub mod Ranges
 pub mod Replies
 pub mod GoodOnline
 pub mod GoodStart

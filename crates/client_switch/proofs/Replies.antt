@@ -9,29 +9,34 @@ use Rattle.bus_types.specs.Relay.{Served, longest_run, most_windows, fitting}
 use Rattle.bus_types.specs.Relay.Served.{Windows as SomeWindows, TooSmall as TooLarge}
 use Rattle.event_codec.specs.declared.answer.Answer.TheVariants.{Empty, TooSmall, Behind, LogGone}
 use Rattle.checkpoint.specs.declared.mark.Mark.{Mark}
+use Rattle.checkpoint.specs.Mark.{IsMark}
 use Rattle.client_switch.specs.Moves.{IsWished, Reply, Windows, Only, turn, rows_left}
 use Rattle.client_switch.specs.Good.{Good}
+use Rattle.client_switch.specs.Lawful.{IsLawfulFor}
 use Rattle.client_switch.specs.True.{reply_of, frame_size, items_within, chunk_of, replay_of}
 
--- what a client is after a reply: its rows are good for its mark, and its wish is one that comes up there
+-- what a client is after a reply: its mark keeps the rule of its kind, its wish is one that comes up there, and its rows are
+-- good for it; and the reply is lawful
 pub record Keeps (ws : List Span) (test : Test) (mark : Mark) (rows : RowList) (reply : Reply) : Type 0 where
   pub good : Good ws test (turn mark reply).mark (rows_left rows (turn mark reply))
+  pub marked : IsMark (turn mark reply).mark
   pub wished : IsWished (turn mark reply).mark (turn mark reply).wish
+  pub lawful : IsLawfulFor mark reply
 
 -- ---- replies that change neither mark nor rows
 
-module _ (ws : List Span) (test : Test) (mark : Mark) (rows : RowList) (g : Good ws test mark rows) where
+module _ (ws : List Span) (test : Test) (mark : Mark) (rows : RowList) (m : IsMark mark) (g : Good ws test mark rows) where
   pub good_empty : (end : ℕ) → Keeps ws test mark rows (Only (Empty end))
-  good_empty end = record { good = g; wished = tt }
+  good_empty end = record { good = g; marked = m; wished = tt; lawful = tt }
 
   pub good_small : (need : ℕ) → Keeps ws test mark rows (Only (TooSmall need))
-  good_small need = record { good = g; wished = tt }
+  good_small need = record { good = g; marked = m; wished = tt; lawful = tt }
 
   pub good_behind : (high : ℕ) → Keeps ws test mark rows (Only (Behind high))
-  good_behind high = record { good = g; wished = tt }
+  good_behind high = record { good = g; marked = m; wished = tt; lawful = tt }
 
   pub good_gone : (base : ℕ) → Keeps ws test mark rows (Only (LogGone base))
-  good_gone base = record { good = g; wished = tt }
+  good_gone base = record { good = g; marked = m; wished = tt; lawful = tt }
 
 -- ---- cases
 
