@@ -1,5 +1,5 @@
 -- Who takes a delta: each reply of a bootstrap that is true of the timeline keeps the rows right.
-use Rattle.std.proofs.Common.{◌≡◌, ℕ, ◌≤◌, Bool, true, false, cond, nat_lt, List, ◌++◌, None, refl, sym, ap, subst, ◌∙◌, arith}
+use Rattle.std.proofs.Common.{◌≡◌, ℕ, ◌≤◌, true, false, cond, nat_lt, List, ◌++◌, None, refl, sym, ap, subst, ◌∙◌, arith}
 use Rattle.std.proofs.lemmas.Bool.{cond_both, cond-true, cond-false}
 use Rattle.bus_types.specs.declared.change.Change.{Change}
 use Rattle.bus_types.specs.declared.change.RowName.{RowName}
@@ -11,7 +11,7 @@ use Rattle.bus_types.specs.Table.{RowList, table, rows_after, payload_at, last_c
 use Rattle.bus_types.specs.Rows.{is_after}
 use Rattle.bus_types.proofs.TableLaws.{payload_after, payload_at-after, rows_after-ordered, last_change-accepted}
 use Rattle.event_codec.specs.declared.answer.Answer.TheVariants.{Behind, LogGone}
-use Rattle.checkpoint.specs.declared.mark.Mark.TheVariants.{Online, Delta as Catching}
+use Rattle.checkpoint.specs.declared.mark.Mark.TheVariants.{Delta as Catching}
 use Rattle.checkpoint.specs.Mark.{IsMark}
 use Rattle.client_switch.specs.Moves.{Delta, Reply, Changes, Only, cursor_after}
 use Rattle.client_switch.specs.Good.{Good}

@@ -1,5 +1,5 @@
 -- Who is online asks the relay: each reply that is true of the timeline keeps the rows right.
-use Rattle.std.proofs.Common.{◌≡◌, ℕ, ◌≤◌, cond, nat_lt, nat_le, List, refl, sym, ap, subst, ◌∙◌, arith}
+use Rattle.std.proofs.Common.{◌≡◌, ℕ, ◌≤◌, cond, nat_lt, nat_le, List, sym, ap, subst, ◌∙◌, arith}
 use Rattle.std.specs.FinMap.{is_sorted}
 use Rattle.std.proofs.lemmas.Bool.{cond_both, leb-false}
 use Rattle.bus_types.specs.Change.{Test, name_cmp}
@@ -60,6 +60,6 @@ good_stream ws test scn most rows reply t m g s =
     (λ _. cond_both (nat_le s.end scn) (NothingNew s.end) fits P
     (λ _. good_empty ws test (Online scn) rows m g s.end)
     (λ e.
-        let later = leb-false s.end scn e in
-        fitting_cases P most (cuts test (windows_between scn s.end ws)) (good_small ws test (Online scn) rows m g)
-        (λ run r. good_windows ws test scn s.end most rows run t (place_within s.end ws t s.end_place) (omega arith) g r))))
+    let later = leb-false s.end scn e in
+    fitting_cases P most (cuts test (windows_between scn s.end ws)) (good_small ws test (Online scn) rows m g)
+    (λ run r. good_windows ws test scn s.end most rows run t (place_within s.end ws t s.end_place) (omega arith) g r))))

@@ -1,20 +1,19 @@
 -- Who replays what changed since its scan began: each reply of a bootstrap that is true of the timeline keeps the rows right.
-use Rattle.std.proofs.Common.{◌≡◌, ℕ, ◌<◌, ◌≤◌, Bool, true, false, cond, ◌==◌, nat_lt, List, Option, Some, None, is_some, refl, sym, ap, subst, ◌∙◌, arith, true≢false}
+use Rattle.std.proofs.Common.{◌≡◌, ℕ, ◌<◌, ◌≤◌, true, false, cond, ◌==◌, nat_lt, List, Option, Some, None, is_some, refl, sym, ap, subst, ◌∙◌, arith, true≢false}
 use Rattle.std.proofs.lemmas.Bool.{cond_both, cond-true, cond-false, eqb-true, eqb-false}
 use Rattle.bus_types.specs.declared.change.Change.{Change}
 use Rattle.bus_types.specs.declared.change.RowName.{RowName}
 use Rattle.bus_types.specs.Change.{Test, accepted}
 use Rattle.bus_types.specs.Window.{Span}
 use Rattle.bus_types.specs.Timeline.{IsTimeline, end_from, windows_between, changes_between}
-use Rattle.bus_types.specs.Table.{RowList, table, rows_after, payload_at, later, last_change, last_between}
+use Rattle.bus_types.specs.Table.{RowList, table, rows_after, payload_at, later, last_between}
 use Rattle.bus_types.specs.Cut.{cuts}
 use Rattle.bus_types.specs.Relay.{most_windows}
 use Rattle.bus_types.proofs.TableLaws.{payload_after, payload_at-after, rows_after-ordered, last_change-accepted}
 use Rattle.event_codec.specs.declared.answer.Answer.TheVariants.{Behind, LogGone}
-use Rattle.checkpoint.specs.declared.mark.Mark.{Mark}
 use Rattle.checkpoint.specs.declared.mark.Mark.TheVariants.{Online, Catchup as Replaying}
 use Rattle.checkpoint.specs.Mark.{IsMark}
-use Rattle.client_switch.specs.Moves.{Catchup, Reply, Windows, Only, changes_of, replayed}
+use Rattle.client_switch.specs.Moves.{Catchup, Reply, Windows, Only, changes_of}
 use Rattle.client_switch.specs.Good.{IsAsAt, IsAsWithin, changed, Good}
 use Rattle.client_switch.specs.True.{replay_of, IsBootedBy}
 use Rattle.client_switch.proofs.Payloads.{last_between-split, changed_at, unchanged, view_is}
@@ -49,10 +48,13 @@ good_replayed ws test since start target at last rows t l h within g =
       ordered = rows_after-ordered rows cs g.ordered;
       accepted = λ q f. moved q ∙ ap (λ found. payload_after found (payload_at rows q)) (cond-false (test q.source q.key) (last_between ws q at last) None f) ∙ g.accepted q f;
       come = omega (arith, g.come);
-      right = (g.right.0, λ q e.
-        replayed_more ws rows (rows_after rows cs) q start target at last (last_between ws q at last) t l h refl
-        (moved q ∙ ap (λ found. payload_after found (payload_at rows q)) (cond-true (test q.source q.key) (last_between ws q at last) None e))
-        (g.right.1 q e));
+      right = (
+        g.right.0,
+        λ q e.
+            replayed_more ws rows (rows_after rows cs) q start target at last (last_between ws q at last) t l h refl
+            (moved q ∙ ap (λ found. payload_after found (payload_at rows q)) (cond-true (test q.source q.key) (last_between ws q at last) None e))
+            (g.right.1 q e),
+      );
     }
 
 -- at its target
@@ -85,8 +87,8 @@ good_replay_windows ws test since start target at most rows run t m g e =
       marked = cond_both (last == target) (Online target) (Replaying since start target last) IsMark
           (λ _. m.3)
           (λ e.
-              let other = eqb-false last target e in
-              (omega arith, omega arith, m.2, m.3));
+          let other = eqb-false last target e in
+          (omega arith, omega arith, m.2, m.3));
       wished = tt;
       lawful = run_above ws test most_windows most at target run e;
     }

@@ -1,5 +1,5 @@
 -- Who scans, and who has scanned: each reply of a bootstrap that is true of the timeline keeps the rows right.
-use Rattle.std.proofs.Common.{◌≡◌, ℕ, ◌≤◌, max, Bool, true, false, cond, ◌==◌, ◌||◌, nat_lt, List, ◌++◌, None, is_some, refl, sym, ap, subst, ◌∙◌, arith, true≢false}
+use Rattle.std.proofs.Common.{◌≡◌, ℕ, ◌≤◌, max, true, false, cond, ◌==◌, ◌||◌, nat_lt, List, ◌++◌, None, is_some, refl, sym, ap, subst, ◌∙◌, arith, true≢false}
 use Rattle.std.proofs.lemmas.Bool.{cond_both, ltb-false, eqb-true, eqb-false}
 use Rattle.bus_types.specs.declared.change.Change.{Change}
 use Rattle.bus_types.specs.declared.change.RowName.{RowName}
@@ -13,11 +13,10 @@ use Rattle.bus_types.specs.View.{view}
 use Rattle.bus_types.proofs.TableLaws.{payload_after, payload_at-after, rows_after-ordered}
 use Rattle.bus_types.proofs.Stretches.{between_none}
 use Rattle.event_codec.specs.declared.answer.Answer.TheVariants.{Behind, LogGone, Target as GoTo}
-use Rattle.checkpoint.specs.declared.mark.Mark.{Mark}
 use Rattle.checkpoint.specs.declared.mark.Mark.TheVariants.{Online, Snapshot, Scanned, Catchup}
 use Rattle.checkpoint.specs.Mark.{IsMark}
 use Rattle.client_switch.specs.Moves.{Scan, Target, Reply, Rows, Only, cursor_after, changes_of}
-use Rattle.client_switch.specs.Good.{IsAsWithin, Good}
+use Rattle.client_switch.specs.Good.{Good}
 use Rattle.client_switch.specs.True.{puts_of, chunk_of, IsBootedBy}
 use Rattle.client_switch.proofs.Payloads.{view_has, view_lacks, view_is}
 use Rattle.client_switch.proofs.Cursors.{RisesFrom, none_before, upto_front, behind_front}
@@ -44,9 +43,11 @@ module _ (ws : List Span) (test : Test) (since start top : ℕ) (cursor : Cursor
       let before = payload_at rows q in
       elim (is_after cursor q) as (λ b. is_after cursor q ≡ b → HasWithin q) [
         | true ↦ λ a. (
-            scn, le, omega arith,
-            ap (payload_after (last_change q rest)) ((g.right q e).1 a) ∙ puts_give test ws scn cursor q a ∙ view_has test ws scn (view test ws scn) q refl e,
-          )
+          scn,
+          le,
+          omega arith,
+          ap (payload_after (last_change q rest)) ((g.right q e).1 a) ∙ puts_give test ws scn cursor q a ∙ view_has test ws scn (view test ws scn) q refl e,
+        )
         | false ↦ λ f.
             let was = (g.right q e).0 f in
             let high = was.high in
@@ -82,7 +83,9 @@ module _ (ws : List Span) (test : Test) (since start top : ℕ) (cursor : Cursor
           );
         };
         marked = (
-          omega (arith, m.0), m.1, omega (arith, m.2, end_below ws t),
+          omega (arith, m.0),
+          m.1,
+          omega (arith, m.2, end_below ws t),
           cursor_named cursor xs m.3 (all_fore (λ c. IsNamed (name_of c)) xs ys (subst AreNamed (sym e) (scan_named test ws scn cursor t))),
         );
         wished = tt;
@@ -118,10 +121,10 @@ good_scan ws test since start top cursor most rows reply t m g s =
     (λ _. cond_both (nat_lt b.applied start) (Only (Behind b.applied)) chunk P
     (λ _. good_behind ws test mark rows m g b.applied)
     (λ e.
-        let le = ltb-false b.applied start e in
-        chunk_cases P (λ cs more. Rows cs b.applied more) most all (good_small ws test mark rows m g)
-        (λ xs ys w. good_more_rows ws test since start top cursor rows m g b.applied xs ys t le come w)
-        (good_last_rows ws test since start top cursor rows m g b.applied t le come))))
+    let le = ltb-false b.applied start e in
+    chunk_cases P (λ cs more. Rows cs b.applied more) most all (good_small ws test mark rows m g)
+    (λ xs ys w. good_more_rows ws test since start top cursor rows m g b.applied xs ys t le come w)
+    (good_last_rows ws test since start top cursor rows m g b.applied t le come))))
 
 -- ---- behind the scan
 
@@ -142,27 +145,30 @@ good_replay_begun ws test since start top target rows s h c g = record {
   ordered = g.ordered;
   accepted = g.accepted;
   come = omega (arith, g.come);
-  right = (s, λ q e. (
-    (λ changed. absurd (true≢false (sym changed ∙ ap (λ stretch. is_some (last_change q (changes_of stretch))) (between_none start start ws (omega arith))))),
-    (λ _.
-        let was = g.right q e in
-        let high = was.high in
-        record { at = was.at; low = was.low; high = omega arith; same = was.same }),
-  ));
+  right = (
+    s,
+    λ q e. (
+      (λ changed. absurd (true≢false (sym changed ∙ ap (λ stretch. is_some (last_change q (changes_of stretch))) (between_none start start ws (omega arith))))),
+      (λ _.
+          let was = g.right q e in
+          let high = was.high in
+          record { at = was.at; low = was.low; high = omega arith; same = was.same }),
+    ),
+  );
 }
 
 good_target_at : (ws : List Span) (test : Test) (since start top target : ℕ) (rows : RowList) → IsTimeline ws → start ≤ target → max since top ≤ target → target ≤ end_of ws → IsMark (Scanned since start top) → Good ws test (Scanned since start top) rows → Keeps ws test (Scanned since start top) rows (Only (GoTo target))
 good_target_at ws test since start top target rows t l h c m g = record {
   good = cond_both (target == start) (Online target) (Catchup since start target start) (λ mark. Good ws test mark rows)
       (λ e.
-          let same = eqb-true target start e in
-          subst (λ n. Good ws test (Online n) rows) (sym same) (good_scanned_alone ws test since start top rows (omega arith) g))
+      let same = eqb-true target start e in
+      subst (λ n. Good ws test (Online n) rows) (sym same) (good_scanned_alone ws test since start top rows (omega arith) g))
       (λ _. good_replay_begun ws test since start top target rows (omega arith) (omega arith) c g);
   marked = cond_both (target == start) (Online target) (Catchup since start target start) IsMark
       (λ _. omega (arith, end_below ws t))
       (λ e.
-          let other = eqb-false target start e in
-          (omega arith, omega arith, omega arith, omega (arith, end_below ws t)));
+      let other = eqb-false target start e in
+      (omega arith, omega arith, omega arith, omega (arith, end_below ws t)));
   wished = tt;
   lawful = omega arith;
 }
@@ -180,5 +186,5 @@ good_target ws test since start top rows reply t m g s =
     (λ _. cond_both late (Only (Behind b.high)) (Only (GoTo b.high)) P
     (λ _. good_behind ws test mark rows m g b.high)
     (λ e.
-        let far = both_false (nat_lt b.high start) (nat_lt b.high (max since top)) e in
-        good_target_at ws test since start top b.high rows t (ltb-false b.high start far.0) (ltb-false b.high (max since top) far.1) (place_within b.high ws t s.lawful.high_place) m g)))
+    let far = both_false (nat_lt b.high start) (nat_lt b.high (max since top)) e in
+    good_target_at ws test since start top b.high rows t (ltb-false b.high start far.0) (ltb-false b.high (max since top) far.1) (place_within b.high ws t s.lawful.high_place) m g)))

@@ -1,7 +1,6 @@
 -- Who begins again: each reply of a bootstrap that is true of the timeline keeps the rows right.
-use Rattle.std.proofs.Common.{◌≡◌, ℕ, ◌<◌, ◌≤◌, cond, nat_lt, nat_le, List, [], true, false, true≢false, refl, sym, subst, arith}
+use Rattle.std.proofs.Common.{ℕ, ◌<◌, ◌≤◌, cond, nat_lt, nat_le, List, true, false, true≢false, refl, sym, subst, arith}
 use Rattle.std.proofs.lemmas.Bool.{cond_both, leb-false}
-use Rattle.bus_types.specs.declared.row.Cursor.TheVariants.{Start as Beginning}
 use Rattle.bus_types.specs.Change.{Test}
 use Rattle.bus_types.specs.Window.{Span}
 use Rattle.bus_types.specs.Timeline.{IsTimeline, end_of}

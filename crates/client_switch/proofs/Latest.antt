@@ -1,5 +1,5 @@
 -- Entries in order of name as changes: their names rise, and the last change of a row is its entry.
-use Rattle.std.proofs.Common.{◌≡◌, ℕ, ◌&&◌, Bool, true, false, cond, T, subst, List, [], ◌∷◌, map, filter, Option, Some, None, is_eq, is_lt, refl, sym, ap, ◌∙◌}
+use Rattle.std.proofs.Common.{◌≡◌, ℕ, ◌&&◌, Bool, true, false, cond, T, subst, List, [], ◌∷◌, map, filter, Option, Some, None, is_lt, refl, sym, ap, ◌∙◌}
 use Rattle.std.specs.Map.{lookup}
 use Rattle.std.specs.BTreeMap.{is_at, insert_entry}
 use Rattle.std.specs.FinMap.{is_sorted}
@@ -12,7 +12,7 @@ use Rattle.bus_types.specs.declared.row.Cursor.TheVariants.{After}
 use Rattle.bus_types.specs.Change.{Test, accepted, name_cmp, is_name, name_of}
 use Rattle.bus_types.specs.Window.{Span}
 use Rattle.bus_types.specs.Timeline.{changes_between}
-use Rattle.bus_types.specs.Table.{RowList, table, payload_at, later, last_change}
+use Rattle.bus_types.specs.Table.{table, payload_at, later, last_change}
 use Rattle.bus_types.specs.Rows.{is_after, rest_of}
 use Rattle.bus_types.specs.View.{view}
 use Rattle.bus_types.proofs.Names.{name_cmp_total, name_cmp_exact}

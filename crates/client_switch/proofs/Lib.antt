@@ -10,3 +10,5 @@ pub mod GoodDelta
 pub mod GoodScan
 pub mod GoodReplay
 pub mod GoodTurn
+pub mod Standing
+pub mod Growing

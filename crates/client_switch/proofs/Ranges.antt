@@ -1,5 +1,5 @@
 -- The numbers of names and SCNs: those of a timeline are in their ranges, and so are those of the marks that it leads to.
-use Rattle.std.proofs.Common.{◌≡◌, ℕ, ◌≤◌, Bool, true, false, cond, List, [], ◌∷◌, ◌++◌, map, filter, flat_map, Ordering, Less, Equal, Greater, Option, Some, None, is_eq, refl, arith}
+use Rattle.std.proofs.Common.{ℕ, ◌≤◌, Bool, true, false, cond, List, [], ◌∷◌, ◌++◌, map, filter, flat_map, Less, Equal, Greater, Option, Some, None, arith}
 use Rattle.std.specs.Ordering.{match_ordering}
 use Rattle.std.specs.List.{AllByRecursion}
 use Rattle.std.specs.Map.{remove_entry}
