@@ -5,10 +5,19 @@
 
 mod entries;
 mod keeper;
+mod laws;
 mod memory;
+mod paging;
 mod plan;
 mod table;
+mod taking;
 
 pub use keeper::{Keeper, Stop, StoreFault};
+pub use laws::worked_commits;
 pub use memory::MemoryKeeper;
+pub use paging::all_rows;
 pub use plan::Fail;
+pub use taking::{Commit, take};
+
+#[cfg(test)]
+mod tests;
