@@ -4,3 +4,5 @@ pub mod Streams
 pub mod Pieces
 pub mod Turns
 pub mod Replies
+pub mod Feeding
+pub mod Asking

@@ -21,36 +21,10 @@ use Rattle.window_stream.specs.Stream.{Split, new_split, Feeds, TakesAll, FindsB
 use Rattle.window_stream.specs.declared.splitter.SplitFault.{SplitFault}
 use Rattle.window_stream.specs.declared.splitter.SplitFault.TheVariants.{Bad}
 
--- windows that follow each other come one after the other
-come_after : (prev : ℕ) (ws : List Span) → IsTimelineFrom prev ws → Come (record { floor = prev; started = true }) ws
-come_after prev [] t = tt
-come_after prev (w ∷ ws) t =
-    let below = t.0.within.prev in
-    let chained = t.0.chained in
-    (record { within = t.0.within; above = omega arith; chained = eq-eqb w.prev prev chained }, come_after w.scn ws t.1)
-
-come_first : (prev floor : ℕ) (ws : List Span) → IsTimelineFrom prev ws → prev ≤ floor → Rises floor ws → Come (record { floor = floor; started = false }) ws
-come_first prev floor [] t le r = tt
-come_first prev floor (w ∷ ws) t le r =
-    let chained = t.0.chained in
-    (record { within = t.0.within; above = r.0; chained = le-leb w.prev floor (omega arith) }, come_after w.scn ws t.1)
-
--- a front of the windows behind an SCN comes to who is there
-pub run_comes : (scn end k : ℕ) (ws run : List Span) → IsTimeline ws → run ≡ take k (windows_between scn end ws) → Come (record { floor = scn; started = false }) run
-run_comes scn end k ws run t e =
-    let before : ℕ = end_from 0 (windows_between 0 scn ws) in
-    let stretch = timeline-take before k (windows_between scn end ws) (between_timeline 0 scn end ws t) in
-    let rising = rises_take scn k (windows_between scn end ws) (between_rises 0 scn end ws (timeline_rises 0 ws t)) in
-    subst (Come (record { floor = scn; started = false })) (sym e) (come_first before scn (take k (windows_between scn end ws)) stretch (between_end 0 0 scn ws (omega arith)) rising)
-
 -- the bytes of windows are as many as the windows say
-windows_length : (ws : List Span) → length (windows_bytes ws) ≡ total_size ws
+pub windows_length : (ws : List Span) → length (windows_bytes ws) ≡ total_size ws
 windows_length [] = refl
 windows_length (w ∷ ws) = omega (arith, length-append (window_bytes w) (windows_bytes ws), window_length w, windows_length ws)
-
--- the line of a reply, written by the windows that were read in it and the bytes that were sent
-pub read_line : (ws read : List Span) (reply : List ℕ) (count size last : ℕ) → read ≡ ws → reply ≡ windows_bytes ws → count ≡ length read → size ≡ length reply → last ≡ end_from 0 read → served_line count size last ≡ served_line (length ws) (total_size ws) (end_from 0 ws)
-read_line ws read reply count size last same e c s l i = served_line ((c ∙ ap (λ (v : List Span). length v) same) i) ((s ∙ ap (λ (b : List ℕ). length b) e ∙ windows_length ws) i) ((l ∙ ap (end_from 0) same) i)
 
 -- nothing stands behind whole windows
 nothing_behind : (s : Since) → Behind s [] Unfinished
@@ -95,12 +69,6 @@ not_bad_at s scn (c ∷ cs) part e h =
 -- a bad front isn't nothing
 not_bad : (s : Since) (rest : List ℕ) → rest ≡ [] → Behind s rest Refused → ⊥
 not_bad s rest none b = not_bad_at s b.scn b.changes b.part (ap (λ (l : List ℕ). length l) (sym none ∙ b.bytes)) b.stops
-
--- the bytes of one more window
-pub written_more : (reply more : List ℕ) (ws : List Span) (i : ℕ) (w : Span) → i < length ws → w ≡ get_or ws i w → more ≡ reply ++ window_bytes w → reply ++ windows_bytes (drop i ws) ≡ windows_bytes ws → more ++ windows_bytes (drop (i + 1) ws) ≡ windows_bytes ws
-written_more reply more ws i w lt is e h =
-    let first : drop i ws ≡ w ∷ drop (i + 1) ws = drop_more ws i w lt ∙ ap (λ (v : Span). v ∷ drop (i + 1) ws) (sym is) in
-    ap (λ (l : List ℕ). l ++ windows_bytes (drop (i + 1) ws)) e ∙ append_assoc reply (window_bytes w) (windows_bytes (drop (i + 1) ws)) ∙ ap (λ (l : List Span). reply ++ windows_bytes l) (sym first) ∙ h
 
 good : (scn place : ℕ) (ws : List Span) (reply : List ℕ) (new : Split) (after : List Span) → reply ≡ windows_bytes ws → Come (record { floor = scn; started = false }) ws → FindsBad (new_split scn) reply place new [] after → ⊥
 good scn place ws reply new after e come t =

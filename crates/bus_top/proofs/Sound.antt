@@ -1,29 +1,28 @@
--- What each step leaves: the defined state and text, and a sound bus.
-use Rattle.std.proofs.Common.{◌≡◌, ℕ, zero, suc, ◌+◌, ◌<◌, ◌≤◌, Bool, true, false, cond, List, [], ◌∷◌, ◌++◌, length, get_or, take, flat_map, ◌==◌, Vec, option_map, is_some, Option, Some, None, slice_set, refl, sym, ap, subst, ◌∙◌, arith}
+-- What each line leaves: the defined state and text, and a bus that works.
+use Rattle.std.proofs.Common.{◌≡◌, ℕ, zero, suc, ◌+◌, ◌<◌, ◌≤◌, Bool, true, false, cond, List, [], ◌∷◌, ◌++◌, length, get_or, take, flat_map, ◌==◌, ◌||◌, Vec, option_map, is_some, Option, Some, None, slice_set, refl, sym, ap, subst, ◌∙◌, arith}
 use Rattle.std.specs.Global.{Global}
 use Rattle.std.specs.Vec.{with_item}
-use Rattle.std.specs.List.{AllByRecursion}
-use Rattle.std.proofs.lemmas.Bool.{eqb-false, lt-leb, le-ltb}
+use Rattle.std.specs.List.{AllByRecursion, slice_get}
+use Rattle.std.proofs.lemmas.Bool.{eqb-false, lt-leb}
 use Rattle.std.proofs.lemmas.List.{length-map, map-set, map-append}
 use Rattle.std.proofs.lemmas.Option.{slice_get-map, slice_get_read}
 use Rattle.bus_types.specs.declared.change.Change.{Change}
 use Rattle.bus_types.specs.declared.window.WindowFault.{WindowFault}
 use Rattle.bus_types.specs.declared.window.WindowFault.TheVariants.{BadScn, Empty as NoChange}
-use Rattle.bus_types.specs.Window.{Span, span_size, bad_scn, cut_fault, window_fault, IsSpan}
-use Rattle.bus_types.specs.Timeline.{Follows, IsTimeline, end_from, end_of, windows_between, total_size}
-use Rattle.bus_types.specs.Table.{RowList, rows_after}
-use Rattle.bus_types.specs.View.{everything, shown, view}
-use Rattle.bus_types.specs.Cut.{cuts}
-use Rattle.bus_types.specs.Relay.{Served, longest_run, IsLongestRun, most_windows, fitting, stream}
-use Rattle.bus_types.specs.Relay.Served.{NotFound, Empty, TooSmall, Windows}
+use Rattle.bus_types.specs.Change.{Test}
+use Rattle.bus_types.specs.Window.{Span, bad_scn, cut_fault, window_fault, IsSpan}
+use Rattle.bus_types.specs.Timeline.{Follows, IsTimeline, end_from, end_of, windows_between}
+use Rattle.bus_types.specs.View.{shown, view}
+use Rattle.bus_types.specs.Table.{rows_after}
+use Rattle.bus_types.specs.Relay.{Relay, Served, StandsFor, new_relay, answer_of, stream}
 use Rattle.bus_types.specs.Script as script
-use Rattle.bus_types.specs.Script.{State, answer_line, scn_after, place_of, most_consumers, most_commits, most_bytes, next_window, fed, relay_line, consumer_step, commit_step, feed_step, poll_step}
-use Rattle.bus_types.proofs.TableLaws.{cuts_everything}
-use Rattle.bus_types.proofs.Stretches.{between_none, end_from-append, timeline-append, run_rises, run_within, view_stays}
-use Rattle.bus_types.proofs.Runs.{longest_run_is, view_replies}
+use Rattle.bus_types.specs.Script.{State, Step, begin, place_of, most_consumers, most_commits, next_window, fed, relay_line, relay_answer, stream_line, with_consumer, relay_step, consumer_step, commit_step, feed_step, stream_step, poll_step}
+use Rattle.bus_types.proofs.Stretches.{Rises, between_none, end_from-append, view_stays, run_rises, rises_end, timeline_rises}
+use Rattle.bus_types.proofs.Floors.{stands_fresh, stands_committed, stands_answers, parted_at, rises_back}
+use Rattle.partition_filter.specs.Selection.{Selection, test_of}
 use Rattle.bus_top.specs.declared.consumer.Consumer.{Consumer}
 use Rattle.bus_top.specs.declared.bus.Bus.{Bus}
-use Rattle.bus_top.specs.Bus.{follower, followers, state_of, IsFollowing, IsSound}
+use Rattle.bus_top.specs.Bus.{follower, followers, state_of, wish_of, turned, IsFollowing, IsWorking, IsSound, Publishes, Asked}
 
 -- ---- lists
 
@@ -43,10 +42,11 @@ all_set P [] i x h p = tt
 all_set P (y ∷ ys) zero x h p = (p, h.1)
 all_set P (y ∷ ys) (suc i) x h p = (h.0, all_set P ys i x h.1 p)
 
--- the bytes of one more window
-total_size-push : (ws : List Span) (w : Span) → total_size (ws ++ w ∷ []) ≡ total_size ws + span_size w
-total_size-push [] w = omega arith
-total_size-push (v ∷ ws) w = (let rest = total_size-push ws w in omega arith)
+-- of the element at a place
+pub all_at : {X : Type 0} (P : X → Type 0) (xs : List X) (i : ℕ) (x : X) → slice_get xs i ≡ Some x → AllByRecursion P xs → P x
+all_at P [] i x e h = absurd cc
+all_at P (y ∷ ys) zero x e h = subst P (let same : y ≡ x = cc in same) h.0
+all_at P (y ∷ ys) (suc i) x e h = all_at P ys i x e h.1
 
 -- ---- consumers
 
@@ -54,7 +54,7 @@ total_size-push (v ∷ ws) w = (let rest = total_size-push ws w in omega arith)
 new_follows : (ws : List Span) (end : ℕ) (c : Consumer) → c.scn ≡ 0 → c.rows.entries ≡ [] → IsFollowing ws end c
 new_follows ws end c s r = record {
   behind = omega arith;
-  rows = r ∙ sym (ap (view everything ws) s ∙ ap (λ (l : List Span). shown everything (rows_after [] (flat_map (λ (w : Span). w.changes) l))) (between_none 0 0 ws (omega arith)));
+  rows = r ∙ sym (ap (view (test_of c.filter) ws) s ∙ ap (λ (l : List Span). shown (test_of c.filter) (rows_after [] (flat_map (λ (w : Span). w.changes) l))) (between_none 0 0 ws (omega arith)));
 }
 
 -- a window that is committed leaves each consumer where it is
@@ -62,51 +62,13 @@ all_follow_longer : (ws : List Span) (w : Span) (end : ℕ) (cs : List Consumer)
 all_follow_longer ws w end cs f le h =
     all_weaker (IsFollowing ws end) (IsFollowing (ws ++ w ∷ []) end) cs (λ c a. record {
       behind = a.behind;
-      rows = a.rows ∙ sym (view_stays everything ws w c.scn f (let b = a.behind in omega arith));
+      rows = a.rows ∙ sym (view_stays (test_of c.filter) ws w c.scn f (let b = a.behind in omega arith));
     }) h
 
 -- a relay that publishes more leaves each consumer where it is
 all_follow_later : (ws : List Span) (end last : ℕ) (cs : List Consumer) → end ≤ last → AllByRecursion (IsFollowing ws end) cs → AllByRecursion (IsFollowing ws last) cs
 all_follow_later ws end last cs le h =
     all_weaker (IsFollowing ws end) (IsFollowing ws last) cs (λ c a. record { behind = (let b = a.behind in omega arith); rows = a.rows }) h
-
--- ---- answers
-
--- of an answer by a test, windows are those that fit
-picked : (b : Bool) (need : ℕ) (rest run : List Span) → Windows run ≡ cond b (TooSmall need) (Windows rest) → run ≡ rest
-picked true need rest run e = absurd (cc)
-picked false need rest run e = cc
-
--- windows that fit are the longest run
-fitting_run : (max : ℕ) (ws run : List Span) → Windows run ≡ fitting max ws → run ≡ longest_run most_windows max ws
-fitting_run max [] run e = cc
-fitting_run max (w ∷ ws) run e = picked _ _ _ run e
-
--- windows are the answer past both tests
-reached : (early late : Bool) (floor end : ℕ) (run : List Span) (rest : Served) → Windows run ≡ cond early (NotFound floor) (cond late (Empty end) rest) → Windows run ≡ rest
-reached true late floor end run rest e = absurd (cc)
-reached false true floor end run rest e = absurd (cc)
-reached false false floor end run rest e = e
-
--- windows that are served are the longest run
-reply_is : (ws : List Span) (end scn max : ℕ) (run : List Span) → Windows run ≡ stream ws 0 end scn everything max → run ≡ longest_run most_windows max (cuts everything (windows_between scn end ws))
-reply_is ws end scn max run e = fitting_run max _ run (reached _ _ _ _ run _ e)
-
--- they are a front of the windows behind the SCN asked for
-pub reply_front : (ws : List Span) (end scn max : ℕ) (run : List Span) → Windows run ≡ stream ws 0 end scn everything max → run ≡ take (length run) (windows_between scn end ws)
-reply_front ws end scn max run e =
-    let stretch = windows_between scn end ws in
-    let longest = subst (IsLongestRun most_windows max (cuts everything stretch)) (sym (reply_is ws end scn max run e)) (longest_run_is most_windows max (cuts everything stretch)) in
-    longest.front ∙ ap (take (length run)) (cuts_everything stretch)
-
--- a consumer that follows them still follows the source
-pub reply_follows : (ws : List Span) (end max : ℕ) (run : List Span) (old new : Consumer) → IsTimeline ws → IsFollowing ws end old → Windows run ≡ stream ws 0 end old.scn everything max → new.rows.entries ≡ rows_after old.rows.entries (flat_map (λ (w : Span). w.changes) run) → new.scn ≡ end_from old.scn run → IsFollowing ws end new
-reply_follows ws end max run old new t h e r s =
-    let front = reply_front ws end old.scn max run e in
-    record {
-      behind = (let b = run_within 0 old.scn end (length run) ws run t h.behind front in omega arith);
-      rows = r ∙ ap (λ (rows : RowList). rows_after rows (flat_map (λ (w : Span). w.changes) run)) h.rows ∙ view_replies everything most_windows max old.scn end ws run t (reply_is ws end old.scn max run e) ∙ sym (ap (view everything ws) s);
-    }
 
 -- ---- the bus
 
@@ -124,85 +86,135 @@ window_follows last w p f s = record {
   within = s;
 }
 
+-- a bus with nothing, and a relay of some room
+pub works_room : (b : Bus) (r : Relay) (bytes windows : ℕ) → IsSound b → b.begun ≡ false → r ≡ new_relay (record { bytes = bytes; windows = windows }) → IsWorking (record b { relay = r })
+works_room b r bytes windows h fresh e =
+    let none = h.untouched fresh in
+    record {
+      relay = rw (e, none.0) (stands_fresh [] (record { bytes = bytes; windows = windows }) tt);
+      consumers = rw none.1 tt;
+    }
+
 -- a bus with one more consumer
-pub sound_consumer : (b : Bus) (c : Consumer) (after : Vec Consumer Global) → IsSound b → after.items ≡ b.consumers.items ++ c ∷ [] → c.scn ≡ 0 → c.rows.entries ≡ [] → IsSound (record b { consumers = after })
-sound_consumer b c after h e s r = record {
-  timeline = h.timeline;
-  size = h.size;
-  small = h.small;
-  end = h.end;
-  consumers = rw e (all_push (IsFollowing b.source b.end) b.consumers.items c h.consumers (new_follows b.source b.end c s r));
+pub works_consumer : (b : Bus) (c : Consumer) (after : Vec Consumer Global) → IsWorking b → after.items ≡ b.consumers.items ++ c ∷ [] → c.scn ≡ 0 → c.rows.entries ≡ [] → IsWorking (record b { consumers = after })
+works_consumer b c after h e s r = record {
+  relay = h.relay;
+  consumers = rw e (all_push (IsFollowing b.source b.relay.tail) b.consumers.items c h.consumers (new_follows b.source b.relay.tail c s r));
 }
 
 -- a bus with one more window
-pub sound_commit : (b : Bus) (w : Span) (after : List Span) (size : ℕ) → IsSound b → Follows (end_of b.source) w → after ≡ b.source ++ w ∷ [] → size ≡ b.size + span_size w → size ≤ most_bytes → IsSound (record b { source = after; size = size })
-sound_commit b w after size h f e s le =
-    let last : end_of after ≡ w.scn = ap end_of e ∙ end_from-append 0 b.source (w ∷ []) in
-    let more : total_size after ≡ total_size b.source + span_size w = ap total_size e ∙ total_size-push b.source w in
-    record {
-      timeline = rw e (timeline-append 0 b.source w h.timeline f);
-      size = (let sum = h.size in omega arith);
-      small = le;
-      end = (let end = h.end in let above = f.within.prev in let chained = f.chained in omega arith);
-      consumers = rw e (all_follow_longer b.source w b.end b.consumers.items f h.end h.consumers);
-    }
+pub works_commit : (b : Bus) (w : Span) (after : List Span) → IsWorking b → b.relay.tail ≤ end_of b.source → Follows (end_of b.source) w → after ≡ b.source ++ w ∷ [] → IsWorking (record b { source = after })
+works_commit b w after h le f e = record {
+  relay = rw e (stands_committed b.source b.relay w h.relay f);
+  consumers = rw e (all_follow_longer b.source w b.relay.tail b.consumers.items f le h.consumers);
+}
 
 -- a bus whose relay published more
-pub sound_feed : (b : Bus) (count end : ℕ) → IsSound b → end ≡ fed (state_of b) count → IsSound (record b { end = end })
-sound_feed b count end h e =
-    let later = run_rises 0 b.end (end_of b.source) count b.source _ h.timeline refl in
-    let within = run_within 0 b.end (end_of b.source) count b.source _ h.timeline h.end refl in
+pub works_feed : (b : Bus) (r : Relay) (windows : List Span) → IsWorking b → windows ≡ take (length windows) (windows_between b.relay.tail (end_of b.source) b.source) → Publishes windows b.relay r → IsWorking (record b { relay = r })
+works_feed b r windows h e p =
+    let later = run_rises 0 b.relay.tail (end_of b.source) (length windows) b.source windows h.relay.timeline e in
     record {
-      timeline = h.timeline;
-      size = h.size;
-      small = h.small;
-      end = omega arith;
-      consumers = all_follow_later b.source b.end end b.consumers.items (omega arith) h.consumers;
+      relay = p.stands b.source h.relay e;
+      consumers = all_follow_later b.source b.relay.tail r.tail b.consumers.items (let tail = p.tail in omega arith) h.consumers;
     }
 
 -- a bus with another consumer at a place
-pub sound_set : (b : Bus) (i : ℕ) (c : Consumer) → IsSound b → IsFollowing b.source b.end c → IsSound (record b { consumers = with_item b.consumers i c })
-sound_set b i c h f = record {
-  timeline = h.timeline;
-  size = h.size;
-  small = h.small;
-  end = h.end;
-  consumers = all_set (IsFollowing b.source b.end) b.consumers.items i c h.consumers f;
+pub works_set : (b : Bus) (i : ℕ) (c : Consumer) → IsWorking b → IsFollowing b.source b.relay.tail c → IsWorking (record b { consumers = with_item b.consumers i c })
+works_set b i c h f = record {
+  relay = h.relay;
+  consumers = all_set (IsFollowing b.source b.relay.tail) b.consumers.items i c h.consumers f;
 }
 
--- ---- steps
+-- what a relay has published is committed
+pub tail_within : (ws : List Span) (r : Relay) → StandsFor ws r → r.tail ≤ end_of ws
+tail_within ws r h =
+    let parts = parted_at 0 r.tail ws h.tail in
+    let rising = rises_back 0 parts.front parts.back (subst (Rises 0) (sym parts.whole) (timeline_rises 0 ws h.timeline)) in
+    let ends : end_of ws ≡ end_from (end_from 0 parts.front) parts.back = ap end_of (sym parts.whole) ∙ end_from-append 0 parts.front parts.back in
+    let later = rises_end (end_from 0 parts.front) parts.back rising in
+    let front = parts.end in
+    omega arith
+
+-- ---- lines
+
+-- a relay's room
+pub roomed : (s next : State) (bytes windows : ℕ) (text : List ℕ) → s.begun ≡ false → next ≡ record s { room = record { bytes = bytes; windows = windows } } → text ≡ [] → relay_step s bytes windows ≡ Some (next, text)
+unfolding relay_step
+roomed s next bytes windows text fresh e t =
+    ap (λ (b : Bool). cond {A = Step} b None (Some (record s { room = record { bytes = bytes; windows = windows } }, []))) fresh ∙ (λ i. Some (sym e i, sym t i))
+
+-- the state of a bus with another relay that published nothing, where nothing was committed
+pub roomed_state : (b : Bus) (r : Relay) (bytes windows : ℕ) → IsSound b → b.begun ≡ false → r ≡ new_relay (record { bytes = bytes; windows = windows }) → state_of (record b { relay = r }) ≡ record (state_of b) { room = record { bytes = bytes; windows = windows } }
+roomed_state b r bytes windows h fresh e =
+    let within = tail_within b.source b.relay h.working.relay in
+    let ends : end_of b.source ≡ 0 = ap end_of (h.untouched fresh).0 in
+    let none : 0 ≡ b.relay.tail = omega arith in
+    (λ i. record { begun = b.begun; windows = b.source; room = (e i).room; end = (e i).tail; consumers = followers b.consumers.items })
+    ∙ (λ i. record { begun = b.begun; windows = b.source; room = record { bytes = bytes; windows = windows }; end = none i; consumers = followers b.consumers.items })
 
 -- a new consumer
-pub declared : (windows : List Span) (end : ℕ) (name : List ℕ) (cs after : List Consumer) (new : Consumer) (text : List ℕ) → is_some (place_of name (followers cs)) ≡ false → length cs < most_consumers → new.name ≡ name → new.scn ≡ 0 → after ≡ cs ++ new ∷ [] → text ≡ [] → consumer_step (record { windows = windows; end = end; consumers = followers cs }) name ≡ Some (record { windows = windows; end = end; consumers = followers after }, text)
+pub declared : (s : State) (name : List ℕ) (test : Test) (cs after : List Consumer) (new : Consumer) (text : List ℕ) → s.consumers ≡ followers cs → is_some (place_of name (followers cs)) ≡ false → length cs < most_consumers → new.name ≡ name → test_of new.filter ≡ test → new.scn ≡ 0 → wish_of new.wish ≡ script.NoWish → after ≡ cs ++ new ∷ [] → text ≡ [] → consumer_step s name test ≡ Some (record s { consumers = followers after }, text)
 unfolding consumer_step
-declared windows end name cs after new text p l n scn a t =
+declared s name test cs after new text same p l n f scn w a t =
     let few = lt-leb most_consumers (length (followers cs)) (rw (length-map cs follower) l) in
-    let fresh : follower new ≡ record { name = name; scn = 0 } = λ j. record { name = n j; scn = scn j } in
-    let all : followers after ≡ followers cs ++ (record { name = name; scn = 0 }) ∷ [] = ap followers a ∙ map-append follower cs (new ∷ []) ∙ ap (λ (f : script.Consumer). followers cs ++ f ∷ []) fresh in
-    rw (p, few) (λ i. Some (record { windows = windows; end = end; consumers = sym all i }, sym t i))
+    let fresh : follower new ≡ record { name = name; test = test; scn = 0; wish = script.NoWish } = λ j. record { name = n j; test = f j; scn = scn j; wish = w j } in
+    let all : followers after ≡ followers cs ++ (record { name = name; test = test; scn = 0; wish = script.NoWish }) ∷ [] = ap followers a ∙ map-append follower cs (new ∷ []) ∙ ap (λ (f : script.Consumer). followers cs ++ f ∷ []) fresh in
+    rw (same, p, few) (λ i. Some (record s { consumers = sym all i }, sym t i))
 
 -- a commit
-pub committed : (s : State) (scn last : ℕ) (changes : List Change) (w : Span) (after : List Span) (text : List ℕ) → last ≡ end_of s.windows → w ≡ record { scn = scn; prev = last; changes = changes } → window_fault w ≡ None → length s.windows < most_commits → total_size s.windows + span_size w ≤ most_bytes → after ≡ s.windows ++ w ∷ [] → text ≡ [] → commit_step s scn changes ≡ Some (record s { windows = after }, text)
+pub committed : (s : State) (scn last : ℕ) (changes : List Change) (w : Span) (after : List Span) (text : List ℕ) → last ≡ end_of s.windows → w ≡ record { scn = scn; prev = last; changes = changes } → window_fault w ≡ None → length s.windows < most_commits → after ≡ s.windows ++ w ∷ [] → text ≡ [] → commit_step s scn changes ≡ Some (record s { windows = after }, text)
 unfolding commit_step
-committed s scn last changes w after text l e f c b a t =
+committed s scn last changes w after text l e f c a t =
     let same : w ≡ next_window s scn changes = e ∙ ap (λ (p : ℕ). record { scn = scn; prev = p; changes = changes }) l in
     let fault = ap (λ (v : Span). is_some (window_fault v)) (sym same) ∙ ap is_some f in
     let few = lt-leb most_commits (length s.windows) c in
-    let small = le-ltb most_bytes (total_size s.windows + span_size (next_window s scn changes)) (subst (λ (v : Span). total_size s.windows + span_size v ≤ most_bytes) same b) in
     let windows = ap (λ (v : Span). s.windows ++ v ∷ []) (sym same) ∙ sym a in
-    rw (fault, few, small) (λ i. Some (record s { windows = windows i }, sym t i))
+    rw (fault, few) (λ i. Some (record s { windows = windows i }, sym t i))
 
 -- a feed
-pub fed_on : (s : State) (count end : ℕ) (text : List ℕ) → end ≡ fed s count → text ≡ relay_line 0 end → feed_step s count ≡ Some (record s { end = end }, text)
+pub fed_on : (s next : State) (count : ℕ) (text : List ℕ) → next ≡ record s { end = fed s count } → text ≡ relay_line (script.floor next) next.end → feed_step s count ≡ Some (next, text)
 unfolding feed_step
-fed_on s count end text e t = λ i. Some (record s { end = sym e i }, (ap (relay_line 0) (sym e) ∙ sym t) i)
+fed_on s next count text e t = λ i. Some (sym e i, (ap (λ (n : State). relay_line (script.floor n) n.end) (sym e) ∙ sym t) i)
+
+-- the state of a bus whose relay published more
+pub fed_state : (b : Bus) (r : Relay) (count : ℕ) (windows : List Span) → windows ≡ take count (windows_between b.relay.tail (end_of b.source) b.source) → Publishes windows b.relay r → state_of (record b { relay = r }) ≡ record (state_of b) { end = fed (state_of b) count }
+fed_state b r count windows e p =
+    let end : r.tail ≡ fed (state_of b) count = p.tail ∙ ap (end_from b.relay.tail) e in
+    λ i. record { begun = b.begun; windows = b.source; room = p.room i; end = end i; consumers = followers b.consumers.items }
+
+-- an ask of no consumer
+pub streamed : (s : State) (scn : ℕ) (test : Test) (most : ℕ) (text : List ℕ) → text ≡ stream_line (relay_answer s scn test most) → stream_step s scn test most ≡ Some (s, text)
+unfolding stream_step
+streamed s scn test most text t = λ i. Some (s, sym t i)
+
+-- what a consumer asked and what it is then, against the script
+asked_is : (s : State) (i most : ℕ) (c d : script.Consumer) (text : List ℕ) (wish : script.Wish) → (d, text) ≡ turned wish (relay_answer s c.scn c.test most) c → script.asked s i c most wish ≡ Some (with_consumer s i d, text)
+asked_is s i most c d text script.NoWish e = λ j. Some (with_consumer s i (sym e j).0, (sym e j).1)
+asked_is s i most c d text script.StartWish e = λ j. Some (with_consumer s i (sym e j).0, (sym e j).1)
 
 -- one ask of the consumer at a place
-pub polled : (windows : List Span) (end max i : ℕ) (name : List ℕ) (cs : List Consumer) (old new : Consumer) (text : List ℕ) → Some i ≡ place_of name (followers cs) → i < length cs → old ≡ get_or cs i old → new.name ≡ old.name → new.scn ≡ scn_after old.scn (stream windows 0 end old.scn everything max) → text ≡ answer_line (stream windows 0 end old.scn everything max) → poll_step (record { windows = windows; end = end; consumers = followers cs }) name max ≡ Some (record { windows = windows; end = end; consumers = followers (slice_set cs i new) }, text)
+pub polled : (b : Bus) (most i : ℕ) (name : List ℕ) (old new : Consumer) (text : List ℕ) → StandsFor b.source b.relay → Some i ≡ place_of name (followers b.consumers.items) → i < length b.consumers.items → old ≡ get_or b.consumers.items i old → Asked b.source b.relay most old new text → poll_step (state_of b) name most ≡ Some (state_of (record b { consumers = with_item b.consumers i new }), text)
 unfolding poll_step
-polled windows end max i name cs old new text p lt at n scn t =
-    let answer = stream windows 0 end old.scn everything max in
-    let found = slice_get-map follower cs i ∙ ap (option_map follower) (slice_get_read cs (length cs) i old refl lt at) in
-    let moved : follower new ≡ record { name = old.name; scn = scn_after old.scn answer } = λ j. record { name = n j; scn = scn j } in
-    let set : slice_set (followers cs) i (record { name = old.name; scn = scn_after old.scn answer }) ≡ followers (slice_set cs i new) = ap (slice_set (followers cs) i) (sym moved) ∙ sym (map-set follower cs i new) in
-    rw (← p, found) (λ j. Some (record { windows = windows; end = end; consumers = set j }, sym t j))
+polled b most i name old new text h p lt at a =
+    let cs : List Consumer = b.consumers.items in
+    let s : State = state_of b in
+    let found : slice_get (followers cs) i ≡ Some (follower old) = slice_get-map follower cs i ∙ ap (option_map follower) (slice_get_read cs (length cs) i old refl lt at) in
+    let turn : (follower new, text) ≡ turned (wish_of old.wish) (relay_answer s old.scn (test_of old.filter) most) (follower old) =
+    a.turn ∙ (λ j. turned (wish_of old.wish) (stream b.source (h.floor j) b.relay.tail old.scn (test_of old.filter) most) (follower old)) in
+    let set : with_consumer s i (follower new) ≡ state_of (record b { consumers = with_item b.consumers i new }) = λ j. record s { consumers = sym (map-set follower cs i new) j } in
+    rw (← p, found) (asked_is s i most (follower old) (follower new) text (wish_of old.wish) turn ∙ (λ j. Some (set j, text)))
+
+-- a bus of which nothing has come
+pub sound_new : (source : List Span) (relay : Relay) (consumers : Vec Consumer Global) (bytes windows : ℕ) → source ≡ [] → relay ≡ new_relay (record { bytes = bytes; windows = windows }) → consumers.items ≡ [] → IsSound (record { begun = false; source = source; relay = relay; consumers = consumers })
+sound_new source relay consumers bytes windows s r c = record {
+  working = record { relay = rw (s, r) (stands_fresh [] (record { bytes = bytes; windows = windows }) tt); consumers = rw c tt };
+  untouched = λ e. (s, c);
+}
+
+-- the consumer at a place follows
+pub follows_at_place : (b : Bus) (i : ℕ) (c : Consumer) → IsWorking b → i < length b.consumers.items → c ≡ get_or b.consumers.items i c → IsFollowing b.source b.relay.tail c
+follows_at_place b i c h lt at = all_at (IsFollowing b.source b.relay.tail) b.consumers.items i c (slice_get_read b.consumers.items (length b.consumers.items) i c refl lt at) h.consumers
+
+-- what is printed of an ask of no consumer
+pub stream_printed : (b : Bus) (scn : ℕ) (test : Test) (most : ℕ) → StandsFor b.source b.relay → stream_line (answer_of b.relay scn test most) ≡ stream_line (relay_answer (state_of b) scn test most)
+stream_printed b scn test most h = ap stream_line (stands_answers b.source b.relay scn test most h ∙ (λ i. stream b.source (h.floor i) b.relay.tail scn test most))

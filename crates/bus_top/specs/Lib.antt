@@ -1,4 +1,4 @@
-pub mod Relay
 pub mod Bus
+pub mod Ask
 pub mod Session
 pub mod Trace

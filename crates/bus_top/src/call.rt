@@ -68,7 +68,9 @@ fn run<S: Source, W: Sink>(alloc: Global, input: &mut S, out: &mut W) -> Status
     ensures read_fault { result ≡ Status.ReadFault → Rose (S.faults input.old) (S.faults input.new) }
     ensures write_fault { result ≡ Status.WriteFault → Rose (W.faults out.old) (W.faults out.new) }
 {
-    let mut session = Session::new(alloc);
+    let Ok(mut session) = Session::new(alloc) else {
+        return Status::NoMemory;
+    };
     let mut text = Vec::new(alloc);
     let mut piece = piece_room();
     loop {

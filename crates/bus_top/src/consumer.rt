@@ -6,28 +6,45 @@ ghost use Rattle.bus_types.specs.Script.{show_text};
 
 use crate::text;
 use bus_types::{Change, NoMemory, Payload, RowName, Window};
+use partition_filter::Filter;
 use std::alloc::Global;
 use std::collections::BTreeMap;
 use trace_script::Name;
 
-/// A consumer: how far it has followed the source, and the rows that it has by then.
+/// What a consumer asks for next.
+#[derive(Clone, Copy, Debug, PartialEq, Eq)]
+pub(crate) enum Wish {
+    /// The windows after its SCN.
+    Next,
+    /// How it is to start again, since the windows after its SCN are gone.
+    Start,
+}
+
+/// A consumer: the rows that it follows, how far it has followed the source, what it asks for next, and the rows that it
+/// has by then.
 #[derive(Debug, Drop)]
 pub(crate) struct Consumer {
     pub name: Name,
+    pub filter: Filter,
     pub scn: u64,
+    pub wish: Wish,
     pub rows: BTreeMap<RowName, Payload>,
 }
 
 impl Consumer {
-    /// A consumer that follows from before the first window.
-    pub fn new(alloc: Global, name: Name) -> Consumer
+    /// A consumer that follows the rows of a filter from before the first window.
+    pub fn new(alloc: Global, name: Name, filter: Filter) -> Consumer
         ensures name { result.name ≡ name }
+        ensures filter { result.filter ≡ filter }
         ensures scn { result.scn ≡ 0 }
+        ensures wish { result.wish ≡ Wish.Next }
         ensures rows { result.rows.entries ≡ [] }
     {
         Consumer {
             name,
+            filter,
             scn: 0,
+            wish: Wish::Next,
             rows: BTreeMap::new(alloc),
         }
     }
@@ -37,6 +54,8 @@ impl Consumer {
         ensures rows { OnOk result (self.new.rows.entries ≡ rows_after self.old.rows.entries (flat_map (λ w. w.changes) windows.now)) }
         ensures scn { OnOk result (self.new.scn ≡ end_from self.old.scn windows.now) }
         ensures name { self.new.name ≡ self.old.name }
+        ensures filter { self.new.filter ≡ self.old.filter }
+        ensures wish { self.new.wish ≡ self.old.wish }
     {
         for window in windows {
             make_changes(alloc, &mut self.rows, window.changes())?;

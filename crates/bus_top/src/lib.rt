@@ -3,11 +3,11 @@
 //! `event_codec` and `window_stream` for the bytes of replies, and on `bus_io` for what is read and written.
 #![tactic(auto)]
 
+mod ask;
 mod bus;
 mod call;
 mod consumer;
 mod fault;
-mod relay;
 mod reply;
 mod session;
 mod status;

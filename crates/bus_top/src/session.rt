@@ -1,4 +1,4 @@
-ghost use Rattle.std.specs.Prelude.{◌≡◌, ◌+◌, ◌≤◌, [], ◌∷◌, ◌++◌, length, IfSome, IfNone};
+ghost use Rattle.std.specs.Prelude.{◌≡◌, ◌+◌, ◌≤◌, [], ◌∷◌, ◌++◌, length, IfOk, IfSome, IfNone};
 ghost use Rattle.trace_script.specs.Run.{IsPart, text_step};
 ghost use Rattle.bus_top.specs.Bus.{state_of, IsSound, Steps};
 ghost use Rattle.bus_top.specs.Session.{IsSession, IsWithin, TakesLine, TakesEnd, Takes, Finishes, Holds, is_long};
@@ -6,6 +6,7 @@ ghost use Rattle.bus_types.specs.Script.{start};
 
 use crate::bus::Bus;
 use crate::fault::StepFault;
+use bus_types::NoMemory;
 use memchr::memchr;
 use std::alloc::Global;
 use trace_script::{LineFault, read_line};
@@ -47,17 +48,17 @@ pub(crate) struct Session {
 
 impl Session {
     /// A script of which nothing has come.
-    pub fn new(alloc: Global) -> Session
-        ensures state { state_of result.bus ≡ start }
-        ensures place { result.place ≡ record { count = 0; used = 0 } }
-        ensures pending { result.pending.items ≡ [] }
-        ensures session { IsSession result }
+    pub fn new(alloc: Global) -> Result<Session, NoMemory>
+        ensures state { IfOk result (λ session. state_of session.bus ≡ start) }
+        ensures place { IfOk result (λ session. session.place ≡ record { count = 0; used = 0 }) }
+        ensures pending { IfOk result (λ session. session.pending.items ≡ []) }
+        ensures session { IfOk result IsSession }
     {
-        Session {
-            bus: Bus::new(alloc),
+        Ok(Session {
+            bus: Bus::new(alloc)?,
             place: Place { count: 0, used: 0 },
             pending: Vec::new(alloc),
-        }
+        })
     }
 
     /// Takes the next piece of the input, and appends what its whole lines print.

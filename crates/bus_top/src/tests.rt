@@ -121,6 +121,50 @@ fn good_scripts_print_their_lines(rt: HostRuntime) -> Result<(), Fail> {
     ends(&rt, rt.alloc(), comment, SOUND, text, Status::Done)
 }
 
+/// A relay with room for two windows, to which three were fed.
+const BOUNDED: &str = "relay 1048576 2\ncommit 10 0/1=aa\ncommit 20 0/2=bb\ncommit 30 0/3=cc\nfeed 3\n";
+
+#[test]
+fn a_bounded_relay_answers_who_asks(rt: HostRuntime) -> Result<(), Fail> {
+    let alloc = rt.alloc();
+    for (lines, text) in [
+        ("stream 9 all 1000\n", "notfound 10\n"),
+        (
+            "stream 10 all 1000\nstream 15 all 1000\n",
+            "served 2 82 last 30\nserved 2 82 last 30\n",
+        ),
+        (
+            "stream 30 all 1000\nstream 99 all 1000\n",
+            "empty 30\nempty 30\n",
+        ),
+        (
+            "consumer c all\npoll c 1000\npoll c 1000\npoll c 1000\n",
+            "notfound 10\nbehind 0\nnotfound 10\n",
+        ),
+        (
+            "stream 10 0%2:1 1000\nstream 10 1* 34\nstream 10 0*;1* 40\n",
+            "served 2 58 last 30\nserved 2 34 last 30\nsmall 41\n",
+        ),
+    ] {
+        let script = format!(in alloc; "{BOUNDED}{lines}")?;
+        let text = format!(in alloc; "relay 10 30\n{text}")?;
+        ends(&rt, alloc, script.as_bytes(), SOUND, &text, Status::Done)?;
+    }
+    for (script, text) in [
+        (
+            "consumer c all\ncommit 10 0/1=aa\nfeed 1\nstream 0 all 40\npoll c 40\nstream 0 all 41\n",
+            "relay 0 10\nsmall 41\nsmall 41\nserved 1 41 last 10\n",
+        ),
+        (
+            "consumer c 0%2:1\ncommit 10 0/2=aa 0/4=bb\nfeed 1\npoll c 17\nshow c\n",
+            "relay 0 10\nserved 1 17 online 10\nshow c online 10 0\n",
+        ),
+    ] {
+        ends(&rt, alloc, script.as_bytes(), SOUND, text, Status::Done)?;
+    }
+    Ok(())
+}
+
 #[test]
 fn the_first_bad_line_is_told(rt: HostRuntime) -> Result<(), Fail> {
     for (script, text, line) in [
@@ -147,6 +191,9 @@ fn the_first_bad_line_is_told(rt: HostRuntime) -> Result<(), Fail> {
         ("feed 1\nshow c\n", "relay 0 0\n", 2),
         ("consumer c all\nfeed 1\nconsumer c all\n", "relay 0 0\n", 3),
         ("consumer c al", "", 1),
+        ("commit 10 0/1=aa\nrelay 1048576 2\n", "", 2),
+        ("# x\n\nrelay 1048576 2\nrelay 1048576 2\n", "", 4),
+        ("relay 1048575 2\n", "", 1),
         ("feed 1\nx\ny\n", "relay 0 0\n", 2),
     ] {
         let status = Status::BadLine { line };
@@ -181,16 +228,13 @@ fn a_reply_has_at_most_32_windows(rt: HostRuntime) -> Result<(), Fail> {
 }
 
 #[test]
-fn a_bus_takes_64_consumers_and_4096_commits(rt: HostRuntime) -> Result<(), Fail> {
+fn a_bus_takes_64_consumers(rt: HostRuntime) -> Result<(), Fail> {
     let alloc = rt.alloc();
-    for (count, before, after) in [(64, "consumer c", " all"), (4_096, "commit ", " 0/1=aa")] {
-        let most = lines(alloc, count, before, after)?;
-        ends(&rt, alloc, most.as_bytes(), SOUND, "", Status::Done)?;
-        let over = lines(alloc, count + 1, before, after)?;
-        let status = Status::BadLine { line: count + 1 };
-        ends(&rt, alloc, over.as_bytes(), SOUND, "", status)?;
-    }
-    Ok(())
+    let most = lines(alloc, 64, "consumer c", " all")?;
+    ends(&rt, alloc, most.as_bytes(), SOUND, "", Status::Done)?;
+    let over = lines(alloc, 65, "consumer c", " all")?;
+    let status = Status::BadLine { line: 65 };
+    ends(&rt, alloc, over.as_bytes(), SOUND, "", status)
 }
 
 #[test]

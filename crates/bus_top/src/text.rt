@@ -1,5 +1,5 @@
 ghost use Rattle.std.specs.Prelude.{◌≡◌, ◌++◌, IfOk, OnOk, string_bytes};
-ghost use Rattle.bus_types.specs.Script.{relay_line, empty_line, small_line, served_line, show_line, row_line};
+ghost use Rattle.bus_types.specs.Script.{relay_line, not_found_line, empty_line, small_line, behind_line, served_line, sent_line, show_line, row_line};
 
 use bus_types::{Key, NoMemory, Payload, RowName};
 use std::alloc::Global;
@@ -9,6 +9,12 @@ pub(crate) fn relay(alloc: Global, floor: u64, end: u64) -> Result<String, NoMem
     ensures { IfOk result (λ text. string_bytes text ≡ relay_line floor end) }
 {
     Ok(format!(in alloc; "relay {floor} {end}\n")?)
+}
+
+pub(crate) fn not_found(alloc: Global, floor: u64) -> Result<String, NoMemory>
+    ensures { IfOk result (λ text. string_bytes text ≡ not_found_line floor) }
+{
+    Ok(format!(in alloc; "notfound {floor}\n")?)
 }
 
 pub(crate) fn empty(alloc: Global, end: u64) -> Result<String, NoMemory>
@@ -23,10 +29,22 @@ pub(crate) fn small(alloc: Global, need: u64) -> Result<String, NoMemory>
     Ok(format!(in alloc; "small {need}\n")?)
 }
 
-pub(crate) fn served(alloc: Global, count: usize, bytes: u64, last: u64) -> Result<String, NoMemory>
+pub(crate) fn behind(alloc: Global, high: u64) -> Result<String, NoMemory>
+    ensures { IfOk result (λ text. string_bytes text ≡ behind_line high) }
+{
+    Ok(format!(in alloc; "behind {high}\n")?)
+}
+
+pub(crate) fn served(alloc: Global, count: u32, bytes: u64, last: u64) -> Result<String, NoMemory>
     ensures { IfOk result (λ text. string_bytes text ≡ served_line count bytes last) }
 {
     Ok(format!(in alloc; "served {count} {bytes} online {last}\n")?)
+}
+
+pub(crate) fn sent(alloc: Global, count: u32, bytes: u64, last: u64) -> Result<String, NoMemory>
+    ensures { IfOk result (λ text. string_bytes text ≡ sent_line count bytes last) }
+{
+    Ok(format!(in alloc; "served {count} {bytes} last {last}\n")?)
 }
 
 /// The first line of what a consumer shows.

@@ -1,7 +1,8 @@
-use Rattle.std.proofs.Common.{ap, sym, ◌∙◌, arith, is_some}
+use Rattle.std.proofs.Common.{refl, ap, sym, ◌∙◌, arith, is_some}
 use Rattle.bus_types.specs.Script.{place_of}
-use Rattle.bus_top.specs.Bus.{followers}
-use Rattle.bus_top.proofs.Sound.{declared, sound_consumer}
+use Rattle.partition_filter.specs.Selection.{test_of}
+use Rattle.bus_top.specs.Bus.{followers, state_of, wish_of}
+use Rattle.bus_top.proofs.Sound.{declared, works_consumer}
 use Rattle.bus_top.proofs.bus.Bus.declare.Goals as goal
 
 pub returns : goal.returns
@@ -12,4 +13,4 @@ returns c =
     let absent = sym (c.if-is_some.ensures ∙ ap is_some found) in
     let few = b.consumers.ok.0 in
     let pushed = c.in_ok-push.ensures.items in
-    (declared b.source b.end c.args.name b.consumers.items c.push.new.self.items c.new.result c.new-2.result.items absent (omega arith) new.name new.scn pushed c.new-2.ensures.items, sound_consumer b c.new.result c.push.new.self c.requires pushed new.scn new.rows)
+    (declared (state_of b) c.args.name (test_of c.args.filter) b.consumers.items c.push.new.self.items c.new.result c.new-2.result.items refl absent (omega arith) new.name (ap test_of new.filter) new.scn (ap wish_of new.wish) pushed c.new-2.ensures.items, works_consumer b c.new.result c.push.new.self c.requires.working pushed new.scn new.rows)

@@ -9,4 +9,6 @@ invariant-loop-window l = record {
   rows : rows_after l.self.rows.entries (flat_map (λ (w : Span). w.changes) (drop l.window-index l.windows)) ≡ rows_after l.fn.self.rows.entries (flat_map (λ (w : Span). w.changes) l.windows);
   scn : end_from l.self.scn (drop l.window-index l.windows) ≡ end_from l.fn.self.scn l.windows;
   name : l.self.name ≡ l.fn.self.name;
+  filter : l.self.filter ≡ l.fn.self.filter;
+  wish : l.self.wish ≡ l.fn.self.wish;
 }
