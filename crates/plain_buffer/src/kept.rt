@@ -17,6 +17,7 @@ pub(crate) struct Kept {
 }
 
 impl Kept {
+    /// Nothing is kept, behind the floor 0.
     pub fn new(alloc: Global) -> Kept
         ensures windows { result.windows.items ≡ [] }
         ensures size { result.size ≡ 0 }

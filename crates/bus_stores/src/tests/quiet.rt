@@ -6,7 +6,7 @@ use crate::keeper::{Keeper, StoreFault};
 use bus_types::{Change, Cursor, Key, MarkText, Payload, Rows};
 use std::alloc::Global;
 
-// A keeper that tells nothing of the one inside, as one over a database does: only how often it failed.
+/// A keeper that tells nothing of the one inside, as one over a database does: only how often it failed.
 #[derive(Drop)]
 pub struct Quiet<K> {
     pub inner: K,
