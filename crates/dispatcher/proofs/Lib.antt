@@ -1,0 +1,5 @@
+pub mod Lists
+pub mod Standing
+pub mod Events
+pub mod Spans
+pub mod Examples
