@@ -1,0 +1,4 @@
+pub mod Moves
+pub mod Good
+pub mod True
+pub mod Worked

@@ -1,0 +1,130 @@
+-- What a relay and a bootstrap that follow a timeline reply.
+use Rattle.std.specs.Prelude.{◌≡◌, ℕ, ◌+◌, ◌-◌, ◌≤◌, Bool, true, false, if◌then◌else◌, ◌||◌, nat_lt, nat_le, List, [], ◌∷◌, length, filter, map, Option, Some}
+use Rattle.std.specs.BTreeMap.{insert_entry}
+use Rattle.bus_types.specs.declared.change.Change.{Change}
+use Rattle.bus_types.specs.declared.change.RowName.{RowName}
+use Rattle.bus_types.specs.declared.row.Cursor.{Cursor}
+use Rattle.bus_types.specs.Change.{Test, accepted, change_size, name_cmp, name_of}
+use Rattle.bus_types.specs.Window.{Span}
+use Rattle.bus_types.specs.Timeline.{windows_between, changes_between}
+use Rattle.bus_types.specs.Table.{RowList}
+use Rattle.bus_types.specs.Rows.{is_after, rest_of}
+use Rattle.bus_types.specs.View.{view}
+use Rattle.bus_types.specs.Cut.{cuts}
+use Rattle.bus_types.specs.Relay.{Served, is_place, fitting, stream}
+use Rattle.bus_types.specs.Relay.Served.{Windows as SomeWindows, NotFound as NoWindow, Empty as NothingNew, TooSmall as TooLarge}
+use Rattle.event_codec.specs.declared.answer.Answer.TheVariants.{NotFound, Empty, TooSmall, Behind, LogGone, StartDelta, StartSnapshot, Target as GoTo}
+use Rattle.client_switch.specs.Moves.{Question, Reply}
+use Rattle.client_switch.specs.Moves.Question.{Stream, Start, Scan, Target, Catchup, Delta}
+use Rattle.client_switch.specs.Moves.Reply.{Windows, Rows, Changes, Only}
+
+-- what a relay serves, as a reply
+abbrev pub reply_of : Served → Reply
+reply_of (NoWindow floor) = Only (NotFound floor)
+reply_of (NothingNew end) = Only (Empty end)
+reply_of (TooLarge need) = Only (TooSmall need)
+reply_of (SomeWindows ws) = Windows ws
+
+-- the numbers of a bootstrap: its log has the windows with base < SCN <= high, its rows are the table at applied
+pub record Boot : Type 0 where
+  pub base : ℕ
+  pub applied : ℕ
+  pub high : ℕ
+
+-- numbers that a bootstrap of a timeline can have
+pub record IsBoot (ws : List Span) (b : Boot) : Type 0 where
+  pub applied : b.base ≤ b.applied
+  pub high : b.applied ≤ b.high
+  pub base_place : is_place b.base ws ≡ true
+  pub applied_place : is_place b.applied ws ≡ true
+  pub high_place : is_place b.high ws ≡ true
+
+-- ---- chunks
+
+-- the bytes of a closing frame
+abbrev pub frame_size : ℕ
+frame_size = 10
+
+-- the longest run of items from the first on whose sizes sum to at most so many bytes
+abbrev pub items_within : ℕ → List Change → List Change
+items_within room [] = []
+items_within room (c ∷ cs) = if nat_le (change_size c) room then c ∷ items_within (room - change_size c) cs else []
+
+-- a chunk of items in at most so many bytes with its frame, as a reply made of them and of whether an item is left; or the size
+-- that the smallest reply needs
+abbrev pub chunk_of : (List Change → Bool → Reply) → ℕ → List Change → Reply
+chunk_of make most [] = if nat_lt most frame_size then Only (TooSmall frame_size) else make [] false
+chunk_of make most (c ∷ cs) =
+    if nat_lt most (change_size c + frame_size) then Only (TooSmall (change_size c + frame_size))
+    else (let run = items_within (most - frame_size) (c ∷ cs) in make run (nat_lt (length run) (length (c ∷ cs))))
+
+-- rows as puts
+abbrev pub puts_of : RowList → List Change
+puts_of rows = map (λ r. record { source = r.0.source; key = r.0.key; put = Some r.1 }) rows
+
+-- ---- what changed
+
+-- of each row that changes, its name and what the last change puts, in order of name
+abbrev pub Latest : Type 0
+Latest = List (RowName × Option (List ℕ))
+
+abbrev pub latest_after : Latest → List Change → Latest
+latest_after entries [] = entries
+latest_after entries (c ∷ cs) = latest_after (insert_entry name_cmp entries (name_of c) c.put) cs
+
+-- the last change of each accepted row that changes in the windows with low < SCN <= high, in order of name
+abbrev pub last_changes : List Span → Test → ℕ → ℕ → List Change
+last_changes ws test low high =
+    map (λ e. record { source = e.0.source; key = e.0.key; put = e.1 }) (latest_after [] (accepted test (changes_between low high ws)))
+
+-- those after a cursor
+abbrev pub changes_after : Cursor → List Change → List Change
+changes_after cursor cs = filter (λ c. is_after cursor (name_of c)) cs
+
+-- ---- answers
+
+-- of the windows of a replay, of which there is one: what fits
+abbrev pub replay_of : ℕ → ℕ → List Span → Reply
+replay_of high most [] = Only (Behind high)
+replay_of high most (w ∷ ws) = reply_of (fitting most (w ∷ ws))
+
+-- what a bootstrap of a timeline answers, by the first line that applies
+abbrev pub boot_reply : List Span → Test → Boot → Question → Reply
+boot_reply ws test b (Stream scn most) = Only (Behind b.high)
+boot_reply ws test b (Start since false) =
+    if nat_le b.high since then Only (Behind b.high) else if nat_le b.base since then Only (StartDelta b.high) else Only (StartSnapshot b.applied)
+boot_reply ws test b (Start since true) = if nat_lt b.high since then Only (Behind b.high) else Only (StartSnapshot b.applied)
+boot_reply ws test b (Scan start cursor most) =
+    if nat_lt start b.base then Only (LogGone b.base) else if nat_lt b.applied start then Only (Behind b.applied)
+    else chunk_of (λ cs more. Rows cs b.applied more) most (puts_of (rest_of cursor (view test ws b.applied)))
+boot_reply ws test b (Target start least) =
+    if nat_lt start b.base then Only (LogGone b.base) else if nat_lt b.high start || nat_lt b.high least then Only (Behind b.high) else Only (GoTo b.high)
+boot_reply ws test b (Catchup at target most) =
+    if nat_lt at b.base then Only (LogGone b.base) else if nat_lt b.high target then Only (Behind b.high)
+    else replay_of b.high most (cuts test (windows_between at target ws))
+boot_reply ws test b (Delta since target cursor most) =
+    if nat_lt since b.base then Only (LogGone b.base) else if nat_lt b.high target then Only (Behind b.high)
+    else chunk_of (λ cs more. Changes cs target more) most (changes_after cursor (last_changes ws test since target))
+
+-- a relay's reply that is true of a timeline: for some floor and end that are places of it
+pub record IsServedBy (ws : List Span) (test : Test) (scn most : ℕ) (reply : Reply) : Type 0 where
+  pub floor : ℕ
+  pub end : ℕ
+  pub floor_place : is_place floor ws ≡ true
+  pub end_place : is_place end ws ≡ true
+  pub is : reply ≡ reply_of (stream ws floor end scn test most)
+
+-- a bootstrap's reply that is true of a timeline: for some numbers that a bootstrap of it can have
+pub record IsBootedBy (ws : List Span) (test : Test) (q : Question) (reply : Reply) : Type 0 where
+  pub boot : Boot
+  pub lawful : IsBoot ws boot
+  pub is : reply ≡ boot_reply ws test boot q
+
+-- a reply that is true of a timeline: the relay's to who asks for windows, the bootstrap's to every other question
+abbrev pub IsTrueOf : List Span → Test → Question → Reply → Type 0
+IsTrueOf ws test (Stream scn most) reply = IsServedBy ws test scn most reply
+IsTrueOf ws test (Start since fresh) reply = IsBootedBy ws test (Start since fresh) reply
+IsTrueOf ws test (Scan start cursor most) reply = IsBootedBy ws test (Scan start cursor most) reply
+IsTrueOf ws test (Target start least) reply = IsBootedBy ws test (Target start least) reply
+IsTrueOf ws test (Catchup at target most) reply = IsBootedBy ws test (Catchup at target most) reply
+IsTrueOf ws test (Delta since target cursor most) reply = IsBootedBy ws test (Delta since target cursor most) reply
