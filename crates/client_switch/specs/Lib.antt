@@ -2,3 +2,6 @@ pub mod Moves
 pub mod Good
 pub mod True
 pub mod Worked
+pub mod Client
+pub mod Opening
+pub mod Turning
