@@ -32,6 +32,11 @@ pub record KeeperState : Type 0 where
   pub calls : Option ℕ
   pub faults : ℕ
 
+-- a keeper that tells nothing of itself but how often it failed
+abbrev pub untold : ℕ → KeeperState
+untold faults = record { content = None; stops = None; calls = None; faults = faults }
+
+-- neither a row nor a mark
 abbrev pub new_content : Content
 new_content = record { rows = []; mark = None }
 
@@ -118,8 +123,8 @@ abbrev pub Stopped : Move → KeeperState → KeeperState → Type 0
 Stopped m old new = Meets (Some Before) m old new ⊎ Meets (Some After) m old new
 
 -- what a commit leaves, by its answer
-abbrev pub Leaves : Move → KeeperState → KeeperState → Result Unit StoreFault → Type 0
-Leaves m old new (Ok u) = Meets None m old new
+abbrev pub Leaves : {X : Type 0} → Move → KeeperState → KeeperState → Result X StoreFault → Type 0
+Leaves m old new (Ok x) = Meets None m old new
 Leaves m old new (Err Failed) = Stopped m old new
 Leaves m old new (Err NoMemory) = SameStore old new
 

@@ -1,3 +1,4 @@
 pub mod Keeper
 pub mod Entries
 pub mod Memory
+pub mod Taking

@@ -1,4 +1,4 @@
-ghost use Rattle.std.specs.Prelude.{◌≡◌, ◌≤◌, ◌++◌, [], ◌∷◌, length, map, IfOk, OnOk, OnErr};
+ghost use Rattle.std.specs.Prelude.{◌≡◌, ◌++◌, map, IfOk, OnOk, OnErr};
 ghost use Rattle.bus_types.specs.declared.change.RowName.{RowName};
 ghost use Rattle.bus_types.specs.Change.{name_of};
 ghost use Rattle.bus_types.specs.Rows.{pair_of, page_of};

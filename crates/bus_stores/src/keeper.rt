@@ -1,4 +1,4 @@
-ghost use Rattle.std.specs.Prelude.{◌≡◌, ◌<◌, IfOk, OnOk, IfSome};
+ghost use Rattle.std.specs.Prelude.{◌<◌, IfOk, OnOk, IfSome};
 ghost use Rattle.bus_types.specs.Causes.{Rose};
 ghost use Rattle.bus_types.specs.Rows.{page_of, IsPage};
 ghost use Rattle.bus_stores.specs.Keeper.{KeeperState, Reads, Commits, BothTold, IsTable, move_of, payload_of};

@@ -6,9 +6,16 @@
 mod entries;
 mod keeper;
 mod memory;
+mod paging;
 mod plan;
 mod table;
+mod taking;
 
 pub use keeper::{Keeper, Stop, StoreFault};
 pub use memory::MemoryKeeper;
+pub use paging::all_rows;
 pub use plan::Fail;
+pub use taking::{Commit, take};
+
+#[cfg(test)]
+mod tests;

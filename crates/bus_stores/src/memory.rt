@@ -1,7 +1,7 @@
-ghost use Rattle.std.specs.Prelude.{◌≡◌, ◌≤◌, Some, None, IfOk, OnOk, OnErr, IfSome};
+ghost use Rattle.std.specs.Prelude.{◌≡◌, ◌≤◌, Some, IfOk, OnOk, OnErr, IfSome};
 ghost use Rattle.bus_types.specs.Causes.{Rose};
 ghost use Rattle.bus_types.specs.Rows.{page_of, IsPage};
-ghost use Rattle.bus_stores.specs.Keeper.{Reads, Commits, BothTold, IsTable, move_of, payload_of};
+ghost use Rattle.bus_stores.specs.Keeper.{Reads, Commits, BothTold, IsTable, new_content, move_of, payload_of};
 ghost use Rattle.bus_stores.specs.Memory.{new_store, told_by, last_mark, stop_at, read_stop, commit_stop, FailsAt, CountsCall, begun, failed, stopped, stored};
 
 use crate::keeper::{Keeper, Stop, StoreFault};
@@ -42,7 +42,8 @@ impl MemoryKeeper {
     /// A keeper without rows and without a mark, which fails at the calls that are listed. Calls are numbered from 0,
     /// over all calls of the trait [`Keeper`].
     pub fn new(alloc: Global, fails: &[Fail]) -> Result<MemoryKeeper, NoMemory>
-        ensures { IfOk result (λ keeper. keeper ≡ new_store fails.now) }
+        ensures ok { IfOk result (λ keeper. keeper ≡ new_store fails.now) }
+        ensures neither { IfOk result (λ keeper. (told_by keeper).content ≡ Some new_content) }
     {
         Ok(MemoryKeeper {
             table: Table::new(alloc),
@@ -89,7 +90,7 @@ impl MemoryKeeper {
     fn begin(&mut self) -> Result<(), StoreFault>
         ensures read { Reads (λ c. tt) (told_by self.old) (told_by self.new) result }
         ensures exact { FailsAt (read_stop self.old) result }
-        ensures counted { CountsCall self.old self.new }
+        ensures numbered { CountsCall self.old self.new }
     {
         match self.next_call() {
             None => Ok(()),
@@ -153,7 +154,7 @@ impl Keeper for MemoryKeeper {
     fn mark(&mut self, alloc: Global) -> Result<Option<MarkText>, StoreFault>
         ensures read { Reads (λ c. c.mark) (told_by self.old) (told_by self.new) result }
         ensures exact { FailsAt (read_stop self.old) result }
-        ensures counted { CountsCall self.old self.new }
+        ensures numbered { CountsCall self.old self.new }
     {
         self.begin()?;
         Ok(copy_last(alloc, &self.marks)?)
@@ -170,7 +171,7 @@ impl Keeper for MemoryKeeper {
     ) -> Result<(), StoreFault>
         ensures commit { Commits (move_of clear batch.now mark.now) (told_by self.old) (told_by self.new) result }
         ensures exact { FailsAt (commit_stop self.old) result }
-        ensures counted { CountsCall self.old self.new }
+        ensures numbered { CountsCall self.old self.new }
     {
         match self.begin_commit() {
             None => Ok(self.store(alloc, clear, batch, mark)?),
@@ -199,7 +200,7 @@ impl Keeper for MemoryKeeper {
     fn row(&mut self, alloc: Global, source: u16, key: &Key) -> Result<Option<Payload>, StoreFault>
         ensures read { Reads (payload_of source key.now) (told_by self.old) (told_by self.new) result }
         ensures exact { FailsAt (read_stop self.old) result }
-        ensures counted { CountsCall self.old self.new }
+        ensures numbered { CountsCall self.old self.new }
     {
         self.begin()?;
         let name = RowName { source, key: *key };

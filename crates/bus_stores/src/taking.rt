@@ -1,0 +1,34 @@
+ghost use Rattle.std.specs.Prelude.{◌≡◌, IfOk, is_some, option_map};
+ghost use Rattle.bus_stores.specs.Taking.{Takes, commit_move};
+
+use crate::keeper::{Keeper, StoreFault};
+use bus_types::{Change, MarkText};
+use std::alloc::Global;
+
+/// What a commit makes.
+#[derive(Clone, Copy, Debug)]
+pub struct Commit<'a> {
+    /// Whether the rows are cleared first.
+    pub clear: bool,
+    /// The changes, in order.
+    pub batch: &'a [Change],
+    /// The mark.
+    pub mark: &'a MarkText,
+}
+
+/// Makes the commit, where there is one to make, and answers whether there was. Without one it asks the keeper
+/// nothing, and doesn't fail.
+pub fn take<K: Keeper>(
+    alloc: Global,
+    keeper: &mut K,
+    commit: Option<Commit>,
+) -> Result<bool, StoreFault>
+    ensures takes { Takes (option_map commit_move commit.entry) (K.state keeper.old) (K.state keeper.new) result }
+    ensures committed { IfOk result (λ committed. committed ≡ is_some commit.entry) }
+{
+    let Some(commit) = commit else {
+        return Ok(false);
+    };
+    keeper.commit(alloc, commit.clear, commit.batch, commit.mark)?;
+    Ok(true)
+}
