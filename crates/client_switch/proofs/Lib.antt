@@ -1,3 +1,17 @@
+pub mod Payloads
+pub mod Cursors
+pub mod Latest
+pub mod Runs
+pub mod Ranges
+pub mod Replies
+pub mod GoodOnline
+pub mod GoodStart
+pub mod GoodDelta
+pub mod GoodScan
+pub mod GoodReplay
+pub mod GoodTurn
+pub mod Standing
+pub mod Growing
 pub mod Items
 pub mod Coming
 pub mod Turns

@@ -2,7 +2,6 @@
 use Rattle.std.specs.Prelude.{◌≡◌, ℕ, ◌≤◌, max, Bool, true, false, List, None, is_some}
 use Rattle.std.specs.FinMap.{is_sorted}
 use Rattle.bus_types.specs.declared.change.RowName.{RowName}
-use Rattle.bus_types.specs.declared.row.Cursor.{Cursor}
 use Rattle.bus_types.specs.Change.{Test, name_cmp}
 use Rattle.bus_types.specs.Window.{Span}
 use Rattle.bus_types.specs.Timeline.{end_of}

@@ -1,6 +1,7 @@
 pub mod Moves
 pub mod Good
 pub mod True
+pub mod Lawful
 pub mod Worked
 pub mod Client
 pub mod Opening

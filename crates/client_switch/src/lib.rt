@@ -13,6 +13,9 @@ mod worked;
 
 pub use client::{Client, Took};
 pub use fault::{AskRefusal, ClientOpen, TakeFault};
-pub use laws::a_true_reply_keeps_rows_right;
+pub use laws::{
+    a_lawful_reply_sets_no_client_back, a_true_reply_keeps_rows_right,
+    rows_stay_right_while_the_source_commits,
+};
 pub use wish::Wish;
 pub use worked::worked_moves;
