@@ -86,11 +86,11 @@ floor_moved : (old new : KeeperState) (m : Move) (mark next : Mark) → Keeps ol
 floor_moved old new m mark next stored is text rise moves before after one two =
     floor_after old.content m mark next before after stored is text rise one (subst (λ (o : Option Content). IfSome o (λ c. IsStored c.mark after)) moves two)
 
-same_content : (o : Option Content) (m : Move) → option_map (content_after (Some Before) m) o ≡ o
+pub same_content : (o : Option Content) (m : Move) → option_map (content_after (Some Before) m) o ≡ o
 same_content None m = refl
 same_content (Some c) m = refl
 
-after_content : (o : Option Content) (m : Move) → option_map (content_after (Some After) m) o ≡ option_map (content_after None m) o
+pub after_content : (o : Option Content) (m : Move) → option_map (content_after (Some After) m) o ≡ option_map (content_after None m) o
 after_content None m = refl
 after_content (Some c) m = refl
 

@@ -17,3 +17,4 @@ pub mod Coming
 pub mod Turns
 pub mod Settling
 pub mod Keeping
+pub mod KeepingGood

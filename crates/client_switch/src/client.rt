@@ -1,5 +1,8 @@
-ghost use Rattle.std.specs.Prelude.{◌≡◌, ◌≤◌, ◌↔◌, ℕ, true, false, [], ◌∷◌, length, is_some, IfOk, IfSome, IsErrOf};
+ghost use Rattle.std.specs.Prelude.{◌≡◌, ◌≤◌, ◌↔◌, ℕ, true, false, List, [], ◌∷◌, length, is_some, IfOk, IfSome, IsErrOf};
 ghost use Rattle.bus_types.specs.Causes.{Rose};
+ghost use Rattle.bus_types.specs.Window.{Span};
+ghost use Rattle.bus_types.specs.Timeline.{IsTimeline};
+ghost use Rattle.partition_filter.specs.Selection.{test_of};
 ghost use Rattle.checkpoint.specs.declared.mark.Mark.{Mark};
 ghost use Rattle.checkpoint.specs.Mark.{IsMark, floor_of};
 ghost use Rattle.bus_stores.specs.Keeper.{SameStore};
@@ -7,7 +10,7 @@ ghost use Rattle.dispatcher.specs.Callbacks.{with_calls, taken};
 ghost use Rattle.dispatcher.specs.Callbacks.Callback.{OnRollback};
 ghost use Rattle.client_switch.specs.Moves.{next_question};
 ghost use Rattle.client_switch.specs.Moves.Wish.{NoWish};
-ghost use Rattle.client_switch.specs.Client.{IsStored, Keeps, is_built, IsAskOf, asks, Takes, FloorKept};
+ghost use Rattle.client_switch.specs.Client.{IsStored, Keeps, is_built, IsAskOf, asks, Takes, FloorKept, HoldsGood, AreTrueOf, KeepsGood};
 ghost use Rattle.client_switch.specs.Turning.{wish_of, CanStand, checkpoint_call, CanCome, CountsKept, HasRefusal, Settles};
 
 use crate::fault::{AskRefusal, ClientOpen, TakeFault};
@@ -188,6 +191,7 @@ impl Client {
     /// consumer was told of the reply and then to go back. In all four cases client, rows and mark are as before.
     /// `StoreFault` comes where the commit failed: rows and mark are as before it or as after it, and the client is
     /// halted.
+    #[tactic(auto, using(crate::proofs::KeepingGood::unchanged))]
     pub fn take<K: Keeper, C: Consumer>(
         &mut self,
         alloc: Global,
@@ -203,7 +207,14 @@ impl Client {
         ensures refusals { HasRefusal (C.refusals consumer.old) (C.refusals consumer.new) result }
         ensures counts { CountsKept (K.state keeper.old) (K.state keeper.new) }
         ensures keeps { Keeps (K.state keeper.old) self.old.mark → self.new.halted ≡ false → Keeps (K.state keeper.new) self.new.mark }
+
+        // Whatever the peer answers, the floor of the stored mark doesn't fall.
         ensures floor { Keeps (K.state keeper.old) self.old.mark → FloorKept (K.state keeper.old) (K.state keeper.new) }
+
+        // Where the peer's reply is true of a timeline, rows and mark that are good for it stay good, also at a fault.
+        ensures good { (ws : List Span) (most : ℕ) → IsTimeline ws → HoldsGood ws (test_of self.old.filter) self.old.mark (K.state keeper.old) →
+            IsAskOf self.old.filter (asks self.old most) ask.now → AreTrueOf ws (test_of self.old.filter) (asks self.old most) ask.now reply.now →
+            KeepsGood ws (test_of self.old.filter) (K.state keeper.new) }
     {
         if self.halted {
             return Err(TakeFault::Halted);

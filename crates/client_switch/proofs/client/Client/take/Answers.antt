@@ -1,9 +1,11 @@
 use Rattle.std.proofs.Common.{subst}
+use Rattle.partition_filter.specs.Selection.{test_of}
 use Rattle.client_switch.specs.Client.{Held}
 use Rattle.client_switch.specs.Turning.{CanStand}
 use Rattle.client_switch.proofs.Coming.{can_come, described, read}
 use Rattle.client_switch.proofs.Settling.{takes_settled}
-use Rattle.client_switch.proofs.Keeping.{keeps_taken, floor_taken, floor_same}
+use Rattle.client_switch.proofs.Keeping.{keeps_taken, floor_taken}
+use Rattle.client_switch.proofs.KeepingGood.{good_taken}
 use Rattle.client_switch.proofs.client.Client.take.Goals as goal
 
 pub dispatch-requires : goal.dispatch-requires
@@ -30,13 +32,7 @@ returns-clause-floor g c =
     let stands = subst (λ (h : Held). CanStand h.mark h.wish) c.self.view_is c.self.invariant in
     floor_taken c.settle.result c.args.self.now c.settle.new.self c.args.ask.now c.args.reply.now _ _ _ _ c.requires.asked.0 stands.lawful c.requires.asked.1 (returns-clause-takes g c)
 
--- where nothing was committed
-
-pub returns-then-self-clause-floor : goal.returns-then-self-clause-floor
-returns-then-self-clause-floor g c stored = floor_same (g.K.Keeper.state c.args.keeper.now)
-
-pub returns-in_err-shape-clause-floor : goal.returns-in_err-shape-clause-floor
-returns-in_err-shape-clause-floor g c stored = floor_same (g.K.Keeper.state c.args.keeper.now)
-
-pub returns-in_err-dispatch-clause-floor : goal.returns-in_err-dispatch-clause-floor
-returns-in_err-dispatch-clause-floor g c stored = floor_same (g.K.Keeper.state c.args.keeper.now)
+pub returns-clause-good : goal.returns-clause-good
+returns-clause-good g c ws most timeline good asked true_of =
+    let stands = subst (λ (h : Held). CanStand h.mark h.wish) c.self.view_is c.self.invariant in
+    good_taken ws (test_of c.args.self.now.filter) c.args.self.now c.settle.new.self c.args.ask.now c.args.reply.now _ _ _ _ most stands asked timeline true_of good c.settle.result (returns-clause-takes g c)
