@@ -18,3 +18,4 @@ pub mod Turns
 pub mod Settling
 pub mod Keeping
 pub mod KeepingGood
+pub mod Built

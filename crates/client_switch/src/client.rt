@@ -1,4 +1,4 @@
-ghost use Rattle.std.specs.Prelude.{◌≡◌, ◌≤◌, ◌↔◌, ℕ, true, false, List, [], ◌∷◌, length, is_some, IfOk, IfSome, IsErrOf};
+ghost use Rattle.std.specs.Prelude.{◌≡◌, ◌≤◌, ◌↔◌, ℕ, true, false, List, [], ◌∷◌, is_some, IfOk, IfSome, IsErrOf};
 ghost use Rattle.bus_types.specs.Causes.{Rose};
 ghost use Rattle.bus_types.specs.Window.{Span};
 ghost use Rattle.bus_types.specs.Timeline.{IsTimeline};
@@ -156,14 +156,8 @@ impl Client {
     {
         match self.wish {
             Wish::Nothing => self.next_question(alloc, max),
-            Wish::Start => Ok(Ask::Start {
-                since: self.mark.floor_of(),
-                fresh: false,
-            }),
-            Wish::Fresh => Ok(Ask::Start {
-                since: self.mark.floor_of(),
-                fresh: true,
-            }),
+            Wish::Start => Ok(self.start(false)),
+            Wish::Fresh => Ok(self.start(true)),
         }
     }
 
@@ -173,12 +167,26 @@ impl Client {
         ensures { IfOk result (λ ask. IsAskOf self.now.filter (next_question self.now.mark max) ask) }
     {
         match self.mark {
-            Mark::Online { scn } => Ok(Ask::Stream {
-                scn,
-                filter: self.filter.copy(alloc)?,
-                max,
-            }),
+            Mark::Online { scn } => self.stream(alloc, scn, max),
             _ => unreachable!(),
+        }
+    }
+
+    // The windows after an SCN.
+    fn stream(&self, alloc: Global, scn: u64, max: u32) -> Result<Ask, NoMemory>
+        ensures { IfOk result (λ ask. ask ≡ Ask.Stream scn self.now.filter max) }
+    {
+        let filter = self.filter.copy(alloc)?;
+        Ok(Ask::Stream { scn, filter, max })
+    }
+
+    // Where to begin again.
+    fn start(&self, fresh: bool) -> Ask
+        ensures { result ≡ Ask.Start (floor_of self.now.mark) fresh }
+    {
+        Ask::Start {
+            since: self.mark.floor_of(),
+            fresh,
         }
     }
 
@@ -200,8 +208,7 @@ impl Client {
         keeper: &mut K,
         consumer: &mut C,
     ) -> Result<Took, TakeFault>
-        requires asked { (most : ℕ) × IsAskOf self.old.filter (asks self.old most) ask.now }
-        requires short { length reply.now ≤ 16777216 }
+        requires { (most : ℕ) × IsAskOf self.old.filter (asks self.old most) ask.now }
         ensures halted { IsErrOf result TakeFault.Halted ↔ (self.old.halted ≡ true) }
         ensures takes { Takes result self.old self.new ask.now reply.now (K.state keeper.old) (K.state keeper.new) (C.calls consumer.old) (C.calls consumer.new) }
         ensures refusals { HasRefusal (C.refusals consumer.old) (C.refusals consumer.new) result }

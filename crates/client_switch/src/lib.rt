@@ -19,3 +19,6 @@ pub use laws::{
 };
 pub use wish::Wish;
 pub use worked::worked_moves;
+
+#[cfg(test)]
+mod tests;

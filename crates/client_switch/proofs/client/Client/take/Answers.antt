@@ -13,7 +13,7 @@ dispatch-requires g c = described c.args.ask.now c.args.reply.now c.in_ok-shape.
 
 pub settle-requires : goal.settle-requires
 settle-requires g c =
-    can_come c.args.self.now.mark c.args.self.now.wish c.args.self.now.filter c.requires.asked.0 c.args.ask.now c.args.reply.now c.in_ok-shape.shape c.requires.asked.1 c.in_ok-shape.ensures.ok
+    can_come c.args.self.now.mark c.args.self.now.wish c.args.self.now.filter c.requires.0 c.args.ask.now c.args.reply.now c.in_ok-shape.shape c.requires.1 c.in_ok-shape.ensures.ok
 
 pub returns-clause-takes : goal.returns-clause-takes
 returns-clause-takes g c =
@@ -25,12 +25,12 @@ returns-clause-takes g c =
 pub returns-clause-keeps : goal.returns-clause-keeps
 returns-clause-keeps g c =
     let stands = subst (λ (h : Held). CanStand h.mark h.wish) c.self.view_is c.self.invariant in
-    keeps_taken c.settle.result c.args.self.now c.settle.new.self c.args.ask.now c.args.reply.now _ _ _ _ c.requires.asked.0 stands.lawful c.requires.asked.1 (returns-clause-takes g c)
+    keeps_taken c.settle.result c.args.self.now c.settle.new.self c.args.ask.now c.args.reply.now _ _ _ _ c.requires.0 stands.lawful c.requires.1 (returns-clause-takes g c)
 
 pub returns-clause-floor : goal.returns-clause-floor
 returns-clause-floor g c =
     let stands = subst (λ (h : Held). CanStand h.mark h.wish) c.self.view_is c.self.invariant in
-    floor_taken c.settle.result c.args.self.now c.settle.new.self c.args.ask.now c.args.reply.now _ _ _ _ c.requires.asked.0 stands.lawful c.requires.asked.1 (returns-clause-takes g c)
+    floor_taken c.settle.result c.args.self.now c.settle.new.self c.args.ask.now c.args.reply.now _ _ _ _ c.requires.0 stands.lawful c.requires.1 (returns-clause-takes g c)
 
 pub returns-clause-good : goal.returns-clause-good
 returns-clause-good g c ws most timeline good asked true_of =
