@@ -12,3 +12,10 @@ pub mod GoodReplay
 pub mod GoodTurn
 pub mod Standing
 pub mod Growing
+pub mod Items
+pub mod Coming
+pub mod Turns
+pub mod Settling
+pub mod Keeping
+pub mod KeepingGood
+pub mod Built

@@ -3,3 +3,6 @@ pub mod Good
 pub mod True
 pub mod Lawful
 pub mod Worked
+pub mod Client
+pub mod Opening
+pub mod Turning

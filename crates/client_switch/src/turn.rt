@@ -1,0 +1,141 @@
+ghost use Rattle.std.specs.Prelude.{◌≡◌, true, false, [], IfOk};
+ghost use Rattle.checkpoint.specs.Mark.{IsMark};
+ghost use Rattle.bus_stores.specs.Taking.{Takes};
+ghost use Rattle.client_switch.specs.Moves.{Reply, answer_turn, turn, stay, go};
+ghost use Rattle.client_switch.specs.Client.{IsReply, commit_of};
+ghost use Rattle.client_switch.specs.Turning.{wish_of, turn_in, text_of, CanStand, CanCome, CanAnswer};
+
+use crate::changes::windows_changes;
+use crate::wish::Wish;
+use bus_stores::{Commit, Keeper, StoreFault, take};
+use bus_types::{Change, Cursor, MarkText, NoMemory};
+use checkpoint::Mark;
+use event_codec::{Answer, Shape};
+use std::alloc::Global;
+
+/// What a reply makes of a client: its mark, whether that and the rest are committed, whether all rows are cleared
+/// first, the changes that are then made in order, and the wish.
+#[derive(Debug, Drop)]
+pub(crate) struct Turn {
+    pub mark: Mark,
+    pub commits: bool,
+    pub clear: bool,
+    pub batch: Vec<Change>,
+    pub wish: Wish,
+}
+
+// Nothing is committed.
+fn stay(alloc: Global, mark: &Mark, wish: Wish) -> Turn
+    ensures { turn_in result ≡ stay mark.now (wish_of wish) }
+{
+    Turn {
+        mark: *mark,
+        commits: false,
+        clear: false,
+        batch: Vec::new(alloc),
+        wish,
+    }
+}
+
+// One commit, after which nothing is wished.
+fn go(mark: Mark, clear: bool, batch: Vec<Change>) -> Turn
+    ensures { turn_in result ≡ go mark clear batch.items }
+{
+    Turn {
+        mark,
+        commits: true,
+        clear,
+        batch,
+        wish: Wish::Nothing,
+    }
+}
+
+// What a delta of the rows up to an SCN makes.
+fn delta(alloc: Global, since: u64, target: u64) -> Turn
+    ensures { turn_in result ≡ go (Mark.Delta since target Cursor.Start) false [] }
+{
+    let mark = Mark::Delta {
+        since,
+        target,
+        cursor: Cursor::Start,
+    };
+    go(mark, false, Vec::new(alloc))
+}
+
+// What a snapshot that begins at an SCN makes.
+fn snapshot(alloc: Global, since: u64, start: u64) -> Turn
+    ensures { turn_in result ≡ go (Mark.Snapshot since start start Cursor.Start) true [] }
+{
+    let mark = Mark::Snapshot {
+        since,
+        start,
+        top: start,
+        cursor: Cursor::Start,
+    };
+    go(mark, true, Vec::new(alloc))
+}
+
+// What an answer makes.
+fn answer_turn(alloc: Global, mark: &Mark, answer: &Answer) -> Turn
+    requires mark { IsMark mark.now }
+    requires can_come { CanAnswer mark.now answer.now }
+    ensures turn { turn_in result ≡ answer_turn mark.now answer.now }
+    ensures stands { CanStand result.mark (wish_of result.wish) }
+{
+    match *answer {
+        Answer::NotFound(_) => stay(alloc, mark, Wish::Start),
+        Answer::Empty(_) | Answer::TooSmall(_) | Answer::Behind(_) => {
+            stay(alloc, mark, Wish::Nothing)
+        }
+        Answer::StartDelta(high) => delta(alloc, mark.floor_of(), high),
+        Answer::StartSnapshot(applied) => snapshot(alloc, mark.floor_of(), applied),
+        Answer::LogGone(_) | Answer::Target(_) => unreachable!(),
+    }
+}
+
+/// What a lawful reply of this shape makes of a client with this mark. It takes memory for the changes alone.
+pub(crate) fn turn_of(
+    alloc: Global,
+    mark: &Mark,
+    shape: &Shape,
+    reply: &[u8],
+) -> Result<Turn, NoMemory>
+    requires mark { IsMark mark.now }
+    requires can_come { CanCome mark.now shape.now reply.now }
+    ensures turn { IfOk result (λ t. (r : Reply) → IsReply shape.now reply.now r → turn_in t ≡ turn mark.now r) }
+    ensures stands { IfOk result (λ t. CanStand t.mark (wish_of t.wish)) }
+{
+    match *shape {
+        Shape::Windows { last, .. } => {
+            let changes = windows_changes(alloc, reply)?;
+            Ok(go(Mark::Online { scn: last }, false, changes))
+        }
+        Shape::Only(answer) => Ok(answer_turn(alloc, mark, &answer)),
+        Shape::Rows { .. } | Shape::Changes { .. } => unreachable!(),
+    }
+}
+
+impl Turn {
+    /// Makes its one commit, where it has one, and answers the text of the mark that was set.
+    pub fn commit<K: Keeper>(
+        &self,
+        alloc: Global,
+        keeper: &mut K,
+    ) -> Result<Option<MarkText>, StoreFault>
+        requires { IsMark self.now.mark }
+        ensures takes { Takes (commit_of (turn_in self.now)) (K.state keeper.old) (K.state keeper.new) result }
+        ensures text { IfOk result (λ text. text ≡ text_of (turn_in self.now)) }
+    {
+        if !self.commits {
+            return Ok(None);
+        }
+        let mark = self.mark.write(alloc)?;
+        let commit = Commit {
+            clear: self.clear,
+            batch: &self.batch,
+            mark: &mark,
+        };
+        take(alloc, keeper, Some(commit))?;
+        Ok(Some(mark))
+    }
+}
