@@ -34,7 +34,7 @@ published_more windows i old mid new w c lt is p e =
       room = ap (λ (r : Relay). r.room) e ∙ p.room;
       tail = ap (λ (r : Relay). r.tail) e ∙ sym (end_at old.tail i windows w at) ∙ ap (λ (n : ℕ). end_from old.tail (take n windows)) (sym (add-one i));
       stands = λ ws s next. subst (StandsFor ws) (sym e) (stands_published ws mid w (p.stands ws s next)
-        (ap (λ (n : ℕ). windows_between n w.scn ws) p.tail ∙ next_is ws old.tail i windows w s.timeline c next lt is));
+          (ap (λ (n : ℕ). windows_between n w.scn ws) p.tail ∙ next_is ws old.tail i windows w s.timeline c next lt is));
     }
 
 -- all of them

@@ -113,11 +113,7 @@ fn take_windows(
 }
 
 // The consumer takes an answer in place of windows.
-fn take_answer(
-    alloc: Global,
-    answer: Answer,
-    consumer: &mut Consumer,
-) -> Result<Vec<u8>, NoMemory>
+fn take_answer(alloc: Global, answer: Answer, consumer: &mut Consumer) -> Result<Vec<u8>, NoMemory>
     requires { is_taken answer ≡ true }
     ensures consumer { OnOk result (consumer.new ≡ taken answer consumer.old) }
     ensures text { IfOk result (λ text. text.items ≡ answer_text answer) }
@@ -139,9 +135,7 @@ fn take_answer(
             consumer.wish = Wish::Next;
             Ok(text::behind(alloc, high)?.into_bytes())
         }
-        Answer::LogGone(_)
-        | Answer::StartDelta(_)
-        | Answer::StartSnapshot(_)
-        | Answer::Target(_) => unreachable!(),
+        Answer::LogGone(_) | Answer::StartDelta(_) | Answer::StartSnapshot(_) | Answer::Target(_) =>
+            unreachable!(),
     }
 }

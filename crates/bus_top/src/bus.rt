@@ -8,10 +8,9 @@ ghost use Rattle.trace_script.specs.Run.{line_step};
 ghost use Rattle.bus_top.specs.Bus.{state_of, followers, IsSound, Acts, Steps, Publishes};
 ghost use Rattle.event_codec.specs.Reply.{IsServed};
 
-use crate::ask;
 use crate::consumer::Consumer;
 use crate::fault::StepFault;
-use crate::text;
+use crate::{ask, text};
 use bus_types::{Change, NoMemory, Window};
 use partition_filter::Filter;
 use plain_buffer::PlainBuffer;

@@ -22,6 +22,7 @@ pub fn trace<S: Source, W: Sink>(
 ) -> Status
     // The words are another command's exactly where it says so.
     ensures usage { (result ≡ Status.Usage) ↔ (IsTrace words.now → ⊥) }
+    ensures untouched { result ≡ Status.Usage → (input.new ≡ input.old) × (out.new ≡ out.old) }
 
     // The input was read to its end, and what was written is what its lines print.
     ensures done { result ≡ Status.Done → EndsAt Finished (S.left input.old) (W.written out.old) (W.written out.new) }

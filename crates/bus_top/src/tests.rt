@@ -122,7 +122,8 @@ fn good_scripts_print_their_lines(rt: HostRuntime) -> Result<(), Fail> {
 }
 
 /// A relay with room for two windows, to which three were fed.
-const BOUNDED: &str = "relay 1048576 2\ncommit 10 0/1=aa\ncommit 20 0/2=bb\ncommit 30 0/3=cc\nfeed 3\n";
+const BOUNDED: &str =
+    "relay 1048576 2\ncommit 10 0/1=aa\ncommit 20 0/2=bb\ncommit 30 0/3=cc\nfeed 3\n";
 
 #[test]
 fn a_bounded_relay_answers_who_asks(rt: HostRuntime) -> Result<(), Fail> {

@@ -15,7 +15,7 @@ unreachable-requires c =
     let same = c.shape_of.ensures (shapes.Only (answers.Behind 0)) (boot_lawful c.args.consumer.now.scn c.answer_bytes-reply.result c.answer_bytes-reply.ensures) in
     elim c.in-Windows.is [
       | inl w ↦ cc (same, w.2)
-      | inr v ↦ elim v [ | inl w ↦ cc (same, w.3) | inr w ↦ cc (same, w.2) ]
+      | inr v ↦ elim v [ inl w ↦ cc (same, w.3) | inr w ↦ cc (same, w.2) ]
     ]
 
 pub returns : goal.returns

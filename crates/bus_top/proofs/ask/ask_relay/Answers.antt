@@ -57,4 +57,4 @@ unreachable-requires c =
     let answer = answer_of r old.scn (test_of old.filter) c.args.max in
     let lawful = reply_is_lawful c.requires.follows.0 r old.scn old.filter c.in_ok-copy.field-0 c.args.max c.new-reply.result.items c.relay_answer.new.reply.items c.deref.result.now c.requires.follows.1 c.in_ok-copy.ensures c.new-reply.ensures.items c.in_ok-relay_answer.ensures.bytes c.deref.ensures.value in
     let none = no_items answer c.shape_of.result (c.shape_of.ensures (served_shape answer) lawful) in
-    elim c.in-Rows.is [ | inl w ↦ none.0 w.0 w.1 w.2 w.3 | inr w ↦ none.1 w.0 w.1 w.2 ]
+    elim c.in-Rows.is [ inl w ↦ none.0 w.0 w.1 w.2 w.3 | inr w ↦ none.1 w.0 w.1 w.2 ]
