@@ -1,10 +1,10 @@
 -- A consumer that asks: what the reply makes of it, against the script.
-use Rattle.std.proofs.Common.{◌≡◌, ℕ, ◌+◌, ◌<◌, ◌≤◌, Bool, true, false, cond, List, [], ◌∷◌, ◌++◌, length, take, flat_map, Vec, Result, Ok, Err, IfOk, OnOk, refl, sym, ap, subst, ◌∙◌, arith}
+use Rattle.std.proofs.Common.{◌≡◌, ℕ, Bool, true, false, cond, List, [], ◌∷◌, ◌++◌, length, take, flat_map, Vec, Result, Ok, Err, IfOk, OnOk, refl, sym, ap, subst, ◌∙◌, arith}
 use Rattle.std.specs.Global.{Global}
 use Rattle.bus_types.specs.declared.fault.NoMemory.{NoMemory}
 use Rattle.std.proofs.lemmas.Bool.{le-leb}
 use Rattle.bus_types.specs.Change.{Test}
-use Rattle.bus_types.specs.Window.{Span, span_size}
+use Rattle.bus_types.specs.Window.{Span}
 use Rattle.bus_types.specs.Timeline.{IsTimeline, end_from, end_of, total_size, windows_between}
 use Rattle.bus_types.specs.Table.{RowList, rows_after}
 use Rattle.bus_types.specs.View.{view}
@@ -23,7 +23,6 @@ use Rattle.event_codec.specs.declared.reply.Shape.{Shape}
 use Rattle.event_codec.specs.declared.reply.Shape.TheVariants as shapes
 use Rattle.event_codec.specs.Frames.{answer_bytes}
 use Rattle.event_codec.specs.Reply.{reply_bytes}
-use Rattle.event_codec.specs.Streams.{windows_bytes}
 use Rattle.bus_wire.specs.declared.ask.Ask.TheVariants as asks
 use Rattle.bus_wire.specs.Lawful.{IsLawful}
 use Rattle.bus_wire.specs.Served.{served_bytes, served_shape, Serves}

@@ -1,7 +1,6 @@
 -- The reply of a relay to a consumer, as bytes that a splitter reads.
-use Rattle.std.proofs.Common.{◌≡◌, ℕ, ◌+◌, ◌<◌, ◌≤◌, true, false, List, [], ◌∷◌, ◌++◌, length, get_or, take, drop, refl, sym, ap, subst, ◌∙◌, append-nil, append_assoc, arith, inl, inr, Ok, Err}
-use Rattle.std.proofs.lemmas.Bool.{le-leb, eq-eqb}
-use Rattle.std.proofs.lemmas.List.{length-append, drop_more}
+use Rattle.std.proofs.Common.{◌≡◌, ℕ, ◌<◌, false, List, [], ◌∷◌, ◌++◌, length, refl, sym, ap, subst, ◌∙◌, append-nil, arith, inl, inr, Ok, Err}
+use Rattle.std.proofs.lemmas.List.{length-append}
 use Rattle.bus_types.specs.declared.change.Key.{Key}
 use Rattle.bus_types.specs.declared.change.Key.TheVariants.{Long}
 use Rattle.bus_types.specs.declared.change.Change.{Change}
@@ -9,10 +8,8 @@ use Rattle.bus_types.specs.Change.{head_size}
 use Rattle.event_codec.specs.Bytes.{Event, event_bytes, changes_bytes, window_bytes}
 use Rattle.event_codec.proofs.EventBytes.{event_length}
 use Rattle.event_codec.proofs.Windows.{window_length}
-use Rattle.bus_types.specs.Script.{served_line}
 use Rattle.bus_types.specs.Window.{Span}
-use Rattle.bus_types.specs.Timeline.{IsTimeline, IsTimelineFrom, end_from, total_size, windows_between}
-use Rattle.bus_types.proofs.Stretches.{Rises, rises_take, between_rises, timeline_rises, timeline-take, between_timeline, between_end}
+use Rattle.bus_types.specs.Timeline.{total_size}
 use Rattle.event_codec.specs.Items.{Since, open_of, front_of}
 use Rattle.event_codec.specs.Items.Front.{Unfinished, Refused}
 use Rattle.event_codec.proofs.Readings.{one_reading}

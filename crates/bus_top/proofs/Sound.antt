@@ -1,5 +1,5 @@
 -- What each line leaves: the defined state and text, and a bus that works.
-use Rattle.std.proofs.Common.{◌≡◌, ℕ, zero, suc, ◌+◌, ◌<◌, ◌≤◌, Bool, true, false, cond, List, [], ◌∷◌, ◌++◌, length, get_or, take, flat_map, ◌==◌, ◌||◌, Vec, option_map, is_some, Option, Some, None, slice_set, refl, sym, ap, subst, ◌∙◌, arith}
+use Rattle.std.proofs.Common.{◌≡◌, ℕ, zero, suc, ◌<◌, ◌≤◌, Bool, true, false, cond, List, [], ◌∷◌, ◌++◌, length, get_or, take, flat_map, ◌==◌, Vec, option_map, is_some, Option, Some, None, slice_set, refl, sym, ap, subst, ◌∙◌, arith}
 use Rattle.std.specs.Global.{Global}
 use Rattle.std.specs.Vec.{with_item}
 use Rattle.std.specs.List.{AllByRecursion, slice_get}
@@ -11,15 +11,15 @@ use Rattle.bus_types.specs.declared.window.WindowFault.{WindowFault}
 use Rattle.bus_types.specs.declared.window.WindowFault.TheVariants.{BadScn, Empty as NoChange}
 use Rattle.bus_types.specs.Change.{Test}
 use Rattle.bus_types.specs.Window.{Span, bad_scn, cut_fault, window_fault, IsSpan}
-use Rattle.bus_types.specs.Timeline.{Follows, IsTimeline, end_from, end_of, windows_between}
+use Rattle.bus_types.specs.Timeline.{Follows, end_from, end_of, windows_between}
 use Rattle.bus_types.specs.View.{shown, view}
 use Rattle.bus_types.specs.Table.{rows_after}
-use Rattle.bus_types.specs.Relay.{Relay, Served, StandsFor, new_relay, answer_of, stream}
+use Rattle.bus_types.specs.Relay.{Relay, StandsFor, new_relay, answer_of, stream}
 use Rattle.bus_types.specs.Script as script
 use Rattle.bus_types.specs.Script.{State, Step, begin, place_of, most_consumers, most_commits, next_window, fed, relay_line, relay_answer, stream_line, with_consumer, relay_step, consumer_step, commit_step, feed_step, stream_step, poll_step}
 use Rattle.bus_types.proofs.Stretches.{Rises, between_none, end_from-append, view_stays, run_rises, rises_end, timeline_rises}
 use Rattle.bus_types.proofs.Floors.{stands_fresh, stands_committed, stands_answers, parted_at, rises_back}
-use Rattle.partition_filter.specs.Selection.{Selection, test_of}
+use Rattle.partition_filter.specs.Selection.{test_of}
 use Rattle.bus_top.specs.declared.consumer.Consumer.{Consumer}
 use Rattle.bus_top.specs.declared.bus.Bus.{Bus}
 use Rattle.bus_top.specs.Bus.{follower, followers, state_of, wish_of, turned, IsFollowing, IsWorking, IsSound, Publishes, Asked}

@@ -1,13 +1,11 @@
 -- Windows that a relay publishes one after the other.
-use Rattle.std.proofs.Common.{◌≡◌, ℕ, suc, ◌+◌, ◌<◌, ◌≤◌, List, [], ◌∷◌, ◌++◌, length, get_or, take, drop, Some, refl, sym, ap, subst, ◌∙◌, add-one, arith}
+use Rattle.std.proofs.Common.{◌≡◌, ℕ, suc, ◌<◌, ◌≤◌, List, [], ◌∷◌, ◌++◌, length, get_or, take, Some, refl, sym, ap, ◌∙◌, add-one, arith}
 use Rattle.std.specs.List.{slice_get}
 use Rattle.std.proofs.lemmas.List.{take_more, take-take, append_cancel_left}
 use Rattle.std.proofs.lemmas.Option.{slice_get_read}
 use Rattle.bus_types.specs.Window.{Span}
-use Rattle.bus_types.specs.Timeline.{Follows, IsTimeline, IsTimelineFrom, end_from, end_of, windows_between}
-use Rattle.bus_types.specs.Relay.{Relay, StandsFor, published}
+use Rattle.bus_types.specs.Timeline.{IsTimeline, IsTimelineFrom, end_from, end_of, windows_between}
 use Rattle.bus_types.proofs.Stretches.{between_run, between-split, follows_at, end_at, run_rises}
-use Rattle.bus_types.proofs.Floors.{stands_published}
 
 -- of windows that stand next in a timeline behind its windows up to a tail, the one at a place stands alone between the end
 -- of those before it and its own SCN

@@ -1,5 +1,5 @@
 -- What a relay sends, and what it is told to send.
-use Rattle.std.proofs.Common.{◌≡◌, ℕ, List, [], ◌++◌, refl, sym, ap, ◌∙◌, append-nil, append_assoc}
+use Rattle.std.proofs.Common.{◌≡◌, ℕ, List, ◌++◌, ap, ◌∙◌, append-nil, append_assoc}
 use Rattle.bus_types.specs.Relay as relay
 use Rattle.bus_types.specs.Relay.Served.{Windows as SomeWindows, NotFound as NoWindow, Empty as NothingNew, TooSmall as TooLarge}
 use Rattle.event_codec.specs.declared.answer.Answer.TheVariants as frames

@@ -1,5 +1,3 @@
-use Rattle.std.proofs.Common.{◌≡◌, take}
-use Rattle.bus_types.specs.Timeline.{IsTimelineFrom}
 use Rattle.bus_top.proofs.Feeding.{Published}
 use Rattle.bus_top.proofs.bus.publish.Given as goal
 

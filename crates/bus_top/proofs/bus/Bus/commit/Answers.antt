@@ -1,4 +1,4 @@
-use Rattle.std.proofs.Common.{◌+◌, ap, ◌∙◌, arith}
+use Rattle.std.proofs.Common.{ap, ◌∙◌, arith}
 use Rattle.bus_types.specs.Window.{Span}
 use Rattle.bus_top.specs.Bus.{state_of}
 use Rattle.bus_top.proofs.Sound.{committed, works_commit, window_follows, tail_within}

@@ -1,5 +1,4 @@
-use Rattle.std.proofs.Common.{ap, sym, ◌∙◌, take}
-use Rattle.bus_types.specs.Window.{Span}
+use Rattle.std.proofs.Common.{ap, ◌∙◌, take}
 use Rattle.bus_types.specs.Timeline.{end_of, windows_between}
 use Rattle.bus_types.specs.Script.{relay_line}
 use Rattle.bus_top.specs.declared.bus.Bus.{Bus}
