@@ -1,5 +1,5 @@
 -- What a client does with a reply, from its parts.
-use Rattle.std.proofs.Common.{◌≡◌, ℕ, ◌≤◌, Bool, true, false, inl, inr, List, [], ◌∷◌, ◌++◌, map, Option, Some, None, Result, Ok, Err, append-nil, refl, sym, ap, subst, ◌∙◌, append_assoc, arith}
+use Rattle.std.proofs.Common.{◌≡◌, ℕ, ◌≤◌, inr, List, [], ◌∷◌, ◌++◌, map, Option, Some, None, Result, Ok, Err, append-nil, refl, sym, ap, subst, ◌∙◌, append_assoc, arith}
 use Rattle.event_codec.specs.declared.reply.Shape.{Shape}
 use Rattle.checkpoint.specs.Mark.{floor_of}
 use Rattle.bus_wire.specs.declared.ask.Ask.{Ask}
@@ -11,8 +11,8 @@ use Rattle.client_switch.specs.declared.client.Took.{Took}
 use Rattle.client_switch.specs.declared.fault.TakeFault.{TakeFault}
 use Rattle.client_switch.specs.declared.fault.TakeFault.TheVariants.{Halted, BadReply, Refused, StoreFault, NoMemory}
 use Rattle.client_switch.specs.Moves.{Reply, turn}
-use Rattle.client_switch.specs.Client.{Held, IsReply, checkpoint_calls, CallsAll, Takes}
-use Rattle.client_switch.specs.Turning.{CountsKept, Settles}
+use Rattle.client_switch.specs.Client.{Held, IsReply, checkpoint_calls, CallsAll, Takes, CountsKept}
+use Rattle.client_switch.specs.Turning.{Settles}
 
 -- the counts of a keeper that wasn't asked
 pub told_still : (calls : Option ℕ) → BothTold (λ a b. a ≤ b) calls calls
