@@ -1,6 +1,6 @@
 -- Rows that were read so far, and the rest.
-use Rattle.std.proofs.Common.{◌≡◌, ℕ, zero, suc, ◌+◌, ◌-◌, ◌<◌, ◌≤◌, Bool, true, false, cond, List, [], ◌∷◌, ◌++◌, Ordering, Less, Equal, Greater, length, take, drop, map, filter, get_or, Option, Some, None, IfSome, is_lt, true≢false, refl, sym, ap, subst, ◌∙◌, arith, append_assoc}
-use Rattle.std.specs.Prelude.{Result, Ok, Err, slice_get}
+use Rattle.std.proofs.Common.{◌≡◌, ℕ, zero, suc, ◌+◌, ◌-◌, ◌<◌, Bool, true, false, cond, List, [], ◌∷◌, ◌++◌, Ordering, Less, Equal, Greater, length, take, drop, map, get_or, Option, Some, None, IfSome, is_lt, true≢false, refl, sym, ap, subst, ◌∙◌, arith, append_assoc}
+use Rattle.std.specs.Prelude.{Ok, slice_get}
 use Rattle.std.proofs.lemmas.List.{map-append, take_more, take_all, take-append-drop, length-take}
 use Rattle.std.proofs.lemmas.Option.{slice_get_within}
 use Rattle.std.proofs.lemmas.Cmp.{tied_itself}
@@ -12,9 +12,7 @@ use Rattle.bus_types.specs.Change.{name_cmp}
 use Rattle.bus_types.specs.Rows.{pair_of, is_after, rest_of, page_of, last_from, RiseAfter, IsPage}
 use Rattle.bus_types.specs.Table.{RowList}
 use Rattle.bus_types.proofs.Names.{name_cmp_total}
-use Rattle.bus_stores.specs.declared.keeper.StoreFault.{StoreFault}
-use Rattle.bus_stores.specs.declared.keeper.StoreFault.TheVariants.{Failed, NoMemory}
-use Rattle.bus_stores.specs.Keeper.{KeeperState, Content, IsTable, BothTold, SameStore, Reads}
+use Rattle.bus_stores.specs.Keeper.{KeeperState, Content, IsTable, Reads}
 use Rattle.bus_stores.proofs.Pages.{rest_rises}
 use Rattle.bus_stores.proofs.Held.{Kept, kept_more, kept_ok}
 

@@ -18,7 +18,7 @@ use Rattle.bus_types.specs.declared.change.RowName.{RowName}
 use Rattle.bus_types.specs.contracts.change.RowNameOrd.TheImpl.{cmp-value}
 use Rattle.bus_types.specs.Change.{name_cmp, is_name, name_of}
 use Rattle.bus_types.specs.Table.{RowList, row_after, rows_after, payload_at}
-use Rattle.bus_types.proofs.Names.{name_cmp_total, name_cmp_exact}
+use Rattle.bus_types.proofs.Names.{name_cmp_total}
 use Rattle.bus_types.proofs.Entries.{holds, is_true, ordered-insert, lookup-insert}
 use Rattle.bus_types.proofs.TableLaws.{rows_after-ordered, payload_at-row_after, same_rows}
 use Rattle.bus_stores.specs.Keeper.{IsTable}

@@ -1,15 +1,15 @@
 -- The steps of a keeper in memory.
-use Rattle.std.proofs.Common.{◌≡◌, ℕ, ◌+◌, ◌-◌, ◌^◌, ◌≤◌, min, Bool, true, false, List, [], ◌∷◌, ◌++◌, length, Option, Some, None, option_map, find, true≢false, refl, sym, ap, subst, ◌∙◌, inl, inr, arith}
+use Rattle.std.proofs.Common.{◌≡◌, ℕ, ◌-◌, ◌≤◌, true, false, List, [], ◌∷◌, ◌++◌, length, Option, Some, None, option_map, true≢false, refl, sym, ap, subst, ◌∙◌, inl, inr, arith}
 use Rattle.std.proofs.lemmas.List.{length_push, get_or_push}
 use Rattle.std.proofs.lemmas.Option.{slice_get-get_or}
-use Rattle.std.specs.Prelude.{Result, Ok, Err, ◌==◌, slice_get}
+use Rattle.std.specs.Prelude.{Ok, Err}
 use Rattle.bus_stores.specs.declared.keeper.Stop.{Stop}
 use Rattle.bus_stores.specs.declared.keeper.Stop.TheVariants.{Before, After}
 use Rattle.bus_stores.specs.declared.keeper.StoreFault.{StoreFault}
 use Rattle.bus_stores.specs.declared.keeper.StoreFault.TheVariants.{Failed, NoMemory}
 use Rattle.bus_stores.specs.declared.plan.Fail.{Fail}
-use Rattle.bus_stores.specs.Keeper.{KeeperState, Content, Move, Counts, SameStore, Reads, Meets, Commits, moved, rows_moved}
-use Rattle.bus_stores.specs.Memory.{MemoryStore, told_by, last_mark, no_fails, next_count, listed_stop, first_stop, read_stop, commit_stop, begun, failed, stopped, stored}
+use Rattle.bus_stores.specs.Keeper.{Move, Counts, Reads, Commits, moved, rows_moved}
+use Rattle.bus_stores.specs.Memory.{MemoryStore, told_by, last_mark, no_fails, next_count, listed_stop, first_stop, commit_stop, begun, failed, stopped, stored}
 
 abbrev calls_of : MemoryStore → ℕ
 calls_of s = s.calls
@@ -48,7 +48,7 @@ reads_begun s t e later = record {
 }
 
 -- a read that is to fail
-pub reads_stopped : (s t u : MemoryStore) (stop : Stop) (fault : StoreFault) → read_stop s ≡ Some stop → t ≡ begun s → s.calls ≤ t.calls → u ≡ failed t → t.faults ≤ u.faults → fault ≡ Failed → Reads {X = Unit {0}} (λ c. tt) (told_by s) (told_by u) (Err fault)
+pub reads_stopped : (s t u : MemoryStore) (stop : Stop) (fault : StoreFault) → listed_stop s.fails s.calls ≡ Some stop → t ≡ begun s → s.calls ≤ t.calls → u ≡ failed t → t.faults ≤ u.faults → fault ≡ Failed → Reads {X = Unit {0}} (λ c. tt) (told_by s) (told_by u) (Err fault)
 reads_stopped s t u stop fault listed e later f more is = subst (λ x. Reads {X = Unit {0}} (λ c. tt) (told_by s) (told_by u) (Err x)) (sym is) (record {
   counts = fails_counted s t u (ap faults_of e) later (ap calls_of f) more (ap faults_of f);
   same = record { content = ap (λ x. (told_by x).content) (f ∙ ap failed e); stops = ap (λ x. (told_by x).stops) (f ∙ ap failed e) };

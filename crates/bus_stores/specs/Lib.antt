@@ -2,3 +2,4 @@ pub mod Keeper
 pub mod Entries
 pub mod Memory
 pub mod Taking
+pub mod Worked

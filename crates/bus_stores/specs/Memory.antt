@@ -56,9 +56,14 @@ abbrev pub first_stop : Option Stop → Option Stop → Option Stop
 first_stop None second = second
 first_stop (Some stop) second = Some stop
 
--- the stop that a call meets that reads
+-- a stop of a call that has nothing to make
+abbrev pub before_any : Option Stop → Option Stop
+before_any None = None
+before_any (Some stop) = Some Before
+
+-- the stop that a call meets that reads: where it is listed, it fails
 abbrev pub read_stop : MemoryStore → Option Stop
-read_stop s = listed_stop s.fails s.calls
+read_stop s = before_any (listed_stop s.fails s.calls)
 
 -- the stop that a commit meets: the armed one, or the listed one
 abbrev pub commit_stop : MemoryStore → Option Stop

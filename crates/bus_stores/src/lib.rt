@@ -5,6 +5,7 @@
 
 mod entries;
 mod keeper;
+mod laws;
 mod memory;
 mod paging;
 mod plan;
@@ -12,6 +13,7 @@ mod table;
 mod taking;
 
 pub use keeper::{Keeper, Stop, StoreFault};
+pub use laws::worked_commits;
 pub use memory::MemoryKeeper;
 pub use paging::all_rows;
 pub use plan::Fail;

@@ -2,7 +2,7 @@ ghost use Rattle.std.specs.Prelude.{◌≡◌, ◌≤◌, Some, IfOk, OnOk, OnEr
 ghost use Rattle.bus_types.specs.Causes.{Rose};
 ghost use Rattle.bus_types.specs.Rows.{page_of, IsPage};
 ghost use Rattle.bus_stores.specs.Keeper.{Reads, Commits, BothTold, IsTable, new_content, move_of, payload_of};
-ghost use Rattle.bus_stores.specs.Memory.{new_store, told_by, last_mark, stop_at, read_stop, commit_stop, FailsAt, CountsCall, begun, failed, stopped, stored};
+ghost use Rattle.bus_stores.specs.Memory.{new_store, told_by, last_mark, stop_at, listed_stop, read_stop, commit_stop, FailsAt, CountsCall, begun, failed, stopped, stored};
 
 use crate::keeper::{Keeper, Stop, StoreFault};
 use crate::plan::{Fail, Plan, stop_at};
@@ -69,7 +69,7 @@ impl MemoryKeeper {
 
     // Counts a call, and answers the stop that is listed for it.
     fn next_call(&mut self) -> Option<Stop>
-        ensures listed { result ≡ read_stop self.old }
+        ensures listed { result ≡ listed_stop self.old.fails self.old.calls }
         ensures begun { self.new ≡ begun self.old }
         ensures later { self.old.calls ≤ self.new.calls }
     {

@@ -1,6 +1,7 @@
 mod quiet;
 
 use super::*;
+use crate::entries::{self, Entries};
 use bus_types::{Change, Cursor, Key, MarkText, Payload};
 use quiet::Quiet;
 use std::alloc::Global;
@@ -156,6 +157,20 @@ fn one_change_over_many_rows(rt: HostRuntime) -> Result<(), TestFail> {
     assert!(rt; !commit_fails(rt.alloc(), &mut keeper, b"aa", b"n")?);
     let bytes = bytes_of(rt.alloc(), &mut keeper, 1)?.ok_or("a row")?;
     assert_eq!(rt; bytes.as_slice(), b"aa".as_slice());
+    Ok(())
+}
+
+#[test]
+fn a_deleted_row_leaves_no_room(rt: HostRuntime) -> Result<(), TestFail> {
+    let mut entries = Entries::new(rt.alloc());
+    let mut batch = puts(rt.alloc(), &[(1, b"aa"), (2, b"bb")])?;
+    entries::change(rt.alloc(), &mut entries, &batch)?;
+    assert_eq!(rt; entries.len(), 2);
+    for change in &mut batch {
+        change.put = None;
+    }
+    entries::change(rt.alloc(), &mut entries, &batch)?;
+    assert_eq!(rt; entries.len(), 0);
     Ok(())
 }
 

@@ -1,4 +1,4 @@
-use Rattle.std.proofs.Common.{◌≡◌, ◌-◌, ◌≤◌, ◌++◌, length, map, take}
+use Rattle.std.proofs.Common.{◌≡◌, ◌-◌, ◌++◌, length, map, take}
 use Rattle.bus_types.specs.Rows.{pair_of, page_of}
 use Rattle.bus_stores.specs.Entries.{rows_in}
 use Rattle.bus_stores.proofs.entries.page.Given as goal

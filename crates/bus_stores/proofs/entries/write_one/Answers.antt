@@ -1,6 +1,6 @@
-use Rattle.std.proofs.Common.{◌≡◌, ◌∙◌, ap}
+use Rattle.std.proofs.Common.{◌∙◌, ap}
 use Rattle.bus_types.specs.Table.{row_after}
-use Rattle.bus_stores.specs.Entries.{rows_in, HasRoom}
+use Rattle.bus_stores.specs.Entries.{rows_in}
 use Rattle.bus_stores.proofs.Rooms.{has_room_ok, unwrapped, written, room_kept}
 use Rattle.bus_stores.proofs.entries.write_one.Goals as goal
 
