@@ -16,7 +16,7 @@ use Rattle.event_codec.specs.Frames.{Run, closing_bytes, IsAnswer, answer_bytes}
 use Rattle.event_codec.specs.Frames.Run.{Rows, Changes}
 use Rattle.dispatcher.specs.declared.consumer.Refused.{Refused}
 
--- what a call tells a consumer: an SCN, and what is at it
+-- a callback and what it tells: an SCN, for an event the event too, and for a checkpoint its text alone
 pub data Callback : Type 0 where
   OnStart : ℕ → Callback
   OnEvent : ℕ → Event → Callback
@@ -69,7 +69,7 @@ answer_calls (TooSmall size) = []
 answer_calls (Behind scn) = []
 answer_calls (LogGone scn) = []
 
--- whole windows, in full or as a filter left them
+-- that many whole windows, in full or as a filter left them; the SCN of the last one is end
 pub record AreWindows (number end : ℕ) (bytes : List ℕ) (callbacks : List Callback) : Type 0 where
   pub windows : List Span
   pub within : AllByRecursion IsSpan windows
@@ -78,7 +78,7 @@ pub record AreWindows (number end : ℕ) (bytes : List ℕ) (callbacks : List Ca
   pub last : end ≡ end_of windows
   pub told : callbacks ≡ flat_map window_calls windows
 
--- a run of rows or changes at one SCN, and the frame that ends it
+-- a run of that many rows or changes at one SCN, and the frame that ends it
 pub record IsRun (run : Run) (number scn : ℕ) (more : Bool) (bytes : List ℕ) (callbacks : List Callback) : Type 0 where
   pub changes : List Change
   pub within : AreChanges changes

@@ -41,8 +41,8 @@ enum Seen {
     Checkpoint(usize),
 }
 
-// Keeps what was told, and refuses the call of one number, from 0 on, and calls for which there is no memory. On_rollback
-// and on_checkpoint can't refuse, so that it can't tell its calls to a contract.
+// Keeps what was told, and refuses the call of one number, from 0 on, and calls for which there is no memory. It tells
+// nothing to contracts: for want of memory it may have to forget a call.
 #[derive(Drop)]
 struct Recorder {
     seen: Vec<Seen>,
