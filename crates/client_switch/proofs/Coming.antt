@@ -1,6 +1,6 @@
 -- What a lawful reply to an ask of a client is to its mark.
-use Rattle.std.proofs.Common.{◌≡◌, ℕ, ◌+◌, ◌<◌, ◌≤◌, Bool, true, false, inl, inr, ◌⊎◌, List, [], ◌∷◌, length, true≢false, refl, sym, ap, subst, ◌∙◌, arith}
-use Rattle.std.specs.Prelude.{IsTrue, nat_lt, nat_le, flat_map}
+use Rattle.std.proofs.Common.{◌≡◌, ℕ, ◌<◌, ◌≤◌, Bool, true, false, List, [], ◌∷◌, length, true≢false, refl, sym, subst, arith}
+use Rattle.std.specs.Prelude.{IsTrue, flat_map}
 use Rattle.std.specs.List.{AllByRecursion}
 use Rattle.std.proofs.lemmas.Bool.{ltb-true}
 use Rattle.bus_types.specs.declared.limits.TheConstants.{MAX_SCN}
@@ -18,7 +18,7 @@ use Rattle.checkpoint.specs.declared.mark.Mark.TheVariants.{Online, Delta, Snaps
 use Rattle.checkpoint.specs.Mark.{floor_of}
 use Rattle.bus_wire.specs.declared.ask.Ask.{Ask}
 use Rattle.bus_wire.specs.declared.ask.Ask.TheVariants.{Stream as StreamAsk, Start as StartAsk}
-use Rattle.bus_wire.specs.Lawful.{IsLawful, IsAnswerTo, IsAskedFor, HoldsRun, HoldsWindows, after_floor, stream_answers, start_answers}
+use Rattle.bus_wire.specs.Lawful.{IsLawful, IsAnswerTo, IsAskedFor, HoldsRun, after_floor, stream_answers, start_answers}
 use Rattle.dispatcher.specs.Callbacks.{Callback, Describes, window_calls, answer_calls}
 use Rattle.dispatcher.specs.Telling.{AreAll}
 use Rattle.client_switch.specs.Moves.{Wish, IsWished, Reply, question}

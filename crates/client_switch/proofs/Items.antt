@@ -1,19 +1,17 @@
 -- Windows that are read item by item.
-use Rattle.std.proofs.Common.{◌≡◌, ℕ, ◌+◌, ◌-◌, ◌<◌, ◌≤◌, Bool, true, false, eqb, List, [], ◌∷◌, ◌++◌, length, take, drop, refl, sym, ap, subst, ◌∙◌, append_assoc, arith}
+use Rattle.std.proofs.Common.{◌≡◌, ℕ, ◌-◌, ◌<◌, ◌≤◌, Bool, true, false, eqb, List, [], ◌∷◌, ◌++◌, length, take, drop, refl, sym, ap, subst, ◌∙◌, append_assoc, arith}
 use Rattle.std.proofs.lemmas.Bool.{eqb-true, eqb-false}
-use Rattle.std.proofs.lemmas.List.{length-append, length-drop, append-nil, take_rest, nil_from_length}
+use Rattle.std.proofs.lemmas.List.{length-append, append-nil, take_rest, nil_from_length}
 use Rattle.bus_types.specs.declared.change.Change.{Change}
-use Rattle.bus_types.specs.declared.limits.TheConstants.{MAX_CHANGES, MAX_WINDOW}
 use Rattle.bus_types.specs.Change.{AreChanges, changes_size}
 use Rattle.bus_types.specs.Window.{Span, IsSpan}
 use Rattle.event_codec.specs.declared.event.EventView.{EventView}
 use Rattle.event_codec.specs.Bytes.{Event, IsEvent, event_bytes, changes_bytes, mark_bytes, window_bytes, StandsAt}
 use Rattle.event_codec.specs.Streams.{windows_bytes}
 use Rattle.event_codec.specs.View.{event_of, IsView}
-use Rattle.event_codec.proofs.Begun.{event}
 use Rattle.event_codec.proofs.Places.{stands_parts}
-use Rattle.dispatcher.specs.Telling.{AreAll, AreWindow, AreEvents}
-use Rattle.dispatcher.proofs.Standing.{event_some, IsFirst, is_first, window_events, none_left, mark_stands}
+use Rattle.dispatcher.specs.Telling.{AreAll, AreWindow}
+use Rattle.dispatcher.proofs.Standing.{event_some, is_first, window_events, none_left, mark_stands}
 use Rattle.client_switch.specs.Moves.{changes_of}
 use Rattle.client_switch.specs.Turning.{Goes}
 

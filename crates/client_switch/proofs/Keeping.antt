@@ -1,21 +1,18 @@
 -- What a keeper holds after a reply.
 use Rattle.std.proofs.Common.{◌≡◌, ℕ, ◌≤◌, Bool, true, false, inl, inr, List, Option, Some, None, Result, Ok, Err, true≢false, refl, sym, ap, subst, ◌∙◌, arith}
 use Rattle.std.specs.Prelude.{if◌then◌else◌, option_map, IfSome}
-use Rattle.event_codec.specs.declared.reply.Shape.{Shape}
 use Rattle.checkpoint.specs.declared.mark.Mark.{Mark}
 use Rattle.checkpoint.specs.Mark.{IsMark, mark_text, floor_of}
 use Rattle.checkpoint.proofs.ReadBack.{one_mark}
 use Rattle.bus_wire.specs.declared.ask.Ask.{Ask}
-use Rattle.bus_wire.specs.Lawful.{IsLawful}
-use Rattle.bus_stores.specs.declared.keeper.Stop.{Stop}
 use Rattle.bus_stores.specs.declared.keeper.Stop.TheVariants.{Before, After}
 use Rattle.bus_stores.specs.Keeper.{KeeperState, Content, Move, SameStore, Meets, content_after}
 use Rattle.dispatcher.specs.Callbacks.{Call}
 use Rattle.client_switch.specs.declared.client.Took.{Took}
 use Rattle.client_switch.specs.declared.fault.TakeFault.{TakeFault}
 use Rattle.client_switch.specs.declared.fault.TakeFault.TheVariants.{Halted, BadReply, Refused, StoreFault, NoMemory}
-use Rattle.client_switch.specs.Moves.{Reply, Turn, turn}
-use Rattle.client_switch.specs.Client.{Held, IsStored, Keeps, IsAskOf, asks, IsReply, move_of_turn, commit_of, Made, Unmade, Takes, FloorKept}
+use Rattle.client_switch.specs.Moves.{Turn, turn}
+use Rattle.client_switch.specs.Client.{Held, IsStored, Keeps, IsAskOf, asks, move_of_turn, Made, Unmade, Takes, FloorKept}
 use Rattle.client_switch.proofs.Coming.{can_come}
 use Rattle.client_switch.proofs.Turns.{stays, rises, lawful}
 

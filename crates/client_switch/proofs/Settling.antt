@@ -1,10 +1,10 @@
 -- What a client does with a reply, from its parts.
-use Rattle.std.proofs.Common.{◌≡◌, ℕ, ◌≤◌, Bool, true, false, inl, inr, List, [], ◌∷◌, ◌++◌, map, Option, Some, None, Result, Ok, Err, append-nil, refl, sym, ap, subst, ◌∙◌, append_assoc, arith}
+use Rattle.std.proofs.Common.{◌≡◌, ℕ, inr, List, [], ◌∷◌, ◌++◌, map, Option, Some, None, Result, Ok, Err, append-nil, refl, sym, ap, subst, ◌∙◌, append_assoc}
 use Rattle.event_codec.specs.declared.reply.Shape.{Shape}
 use Rattle.checkpoint.specs.Mark.{floor_of}
 use Rattle.bus_wire.specs.declared.ask.Ask.{Ask}
 use Rattle.bus_wire.specs.Lawful.{IsLawful}
-use Rattle.bus_stores.specs.Keeper.{KeeperState, BothTold, SameStore}
+use Rattle.bus_stores.specs.Keeper.{KeeperState}
 use Rattle.dispatcher.specs.Callbacks.{Call, Callback, taken, with_calls, Describes}
 use Rattle.dispatcher.specs.Callbacks.Callback.{OnRollback}
 use Rattle.client_switch.specs.declared.client.Took.{Took}
@@ -12,18 +12,7 @@ use Rattle.client_switch.specs.declared.fault.TakeFault.{TakeFault}
 use Rattle.client_switch.specs.declared.fault.TakeFault.TheVariants.{Halted, BadReply, Refused, StoreFault, NoMemory}
 use Rattle.client_switch.specs.Moves.{Reply, turn}
 use Rattle.client_switch.specs.Client.{Held, IsReply, checkpoint_calls, CallsAll, Takes}
-use Rattle.client_switch.specs.Turning.{CountsKept, Settles}
-
--- the counts of a keeper that wasn't asked
-pub told_still : (calls : Option ℕ) → BothTold (λ a b. a ≤ b) calls calls
-told_still None = tt
-told_still (Some n) = omega arith
-
-pub counts_still : (state : KeeperState) → CountsKept state state
-counts_still state = record { calls = told_still state.calls; faults = omega arith }
-
-pub same_still : (state : KeeperState) → SameStore state state
-same_still state = record { content = refl; stops = refl }
+use Rattle.client_switch.specs.Turning.{Settles}
 
 with_both : (one other : List Call) (calls : Option (List Call)) → with_calls other (with_calls one calls) ≡ with_calls (one ++ other) calls
 with_both one other None = refl

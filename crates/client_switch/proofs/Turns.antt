@@ -1,5 +1,5 @@
 -- The turns of lawful replies.
-use Rattle.std.proofs.Common.{◌≡◌, ℕ, ◌+◌, ◌<◌, ◌≤◌, Bool, true, false, List, [], ◌∷◌, length, true≢false, refl, sym, ap, subst, ◌∙◌, arith}
+use Rattle.std.proofs.Common.{◌≡◌, ℕ, ◌<◌, ◌≤◌, false, List, [], ◌∷◌, length, true≢false, refl, sym, ap, subst, ◌∙◌, arith}
 use Rattle.bus_types.specs.declared.change.Change.{Change}
 use Rattle.bus_types.specs.declared.limits.TheConstants.{MAX_SCN}
 use Rattle.bus_types.specs.Window.{Span}

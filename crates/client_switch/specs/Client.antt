@@ -3,17 +3,17 @@ use Rattle.std.specs.Prelude.{◌≡◌, ℕ, ◌≤◌, Bool, true, false, if�
 use Rattle.bus_types.specs.Causes.{Rose}
 use Rattle.bus_types.specs.Change.{Test}
 use Rattle.bus_types.specs.Window.{Span}
-use Rattle.bus_types.specs.Timeline.{IsTimeline, end_of}
+use Rattle.bus_types.specs.Timeline.{end_of}
 use Rattle.event_codec.specs.declared.reply.Shape.{Shape}
 use Rattle.event_codec.specs.declared.reply.Shape.TheVariants.{Windows as WindowsShape, Rows as RowsShape, Changes as ChangesShape, Only as OnlyShape}
-use Rattle.partition_filter.specs.Selection.{Selection, test_of}
+use Rattle.partition_filter.specs.Selection.{Selection}
 use Rattle.checkpoint.specs.declared.mark.Mark.{Mark}
 use Rattle.checkpoint.specs.declared.mark.Mark.TheVariants.{Online}
 use Rattle.checkpoint.specs.Mark.{IsMark, mark_text, floor_of}
 use Rattle.bus_wire.specs.declared.ask.Ask.{Ask}
 use Rattle.bus_wire.specs.declared.ask.Ask.TheVariants.{Stream as StreamAsk, Start as StartAsk}
 use Rattle.bus_wire.specs.Lawful.{IsLawful, IsFaultAt}
-use Rattle.bus_stores.specs.Keeper.{KeeperState, Move, SameStore, Meets, Stopped, move_of}
+use Rattle.bus_stores.specs.Keeper.{KeeperState, BothTold, Move, SameStore, Meets, Stopped, move_of}
 use Rattle.bus_stores.specs.Taking.{MayFail}
 use Rattle.dispatcher.specs.Callbacks.{Call, Callback, taken, with_calls, Describes, StopsAt}
 use Rattle.dispatcher.specs.Callbacks.Callback.{OnRollback, OnCheckpoint}
@@ -172,6 +172,27 @@ Takes (Err (BadReply found)) old new ask bytes kept keeps before after = Refuses
 Takes (Err (Refused scn)) old new ask bytes kept keeps before after = IsRefused scn old new ask bytes kept keeps before after
 Takes (Err StoreFault) old new ask bytes kept keeps before after = Halts old new ask bytes kept keeps before after
 Takes (Err NoMemory) old new ask bytes kept keeps before after = RunsOut old new ask bytes kept keeps before after
+
+-- ---- counts
+
+-- the counts of a keeper haven't fallen
+pub record CountsKept (old new : KeeperState) : Type 0 where
+  pub calls : BothTold (λ a b. a ≤ b) old.calls new.calls
+  pub faults : old.faults ≤ new.faults
+
+-- where a call answers `Refused`
+abbrev pub OnRefused : Result Took TakeFault → Type 0 → Type 0
+OnRefused (Ok took) P = Unit {0}
+OnRefused (Err Halted) P = Unit {0}
+OnRefused (Err (BadReply place)) P = Unit {0}
+OnRefused (Err (Refused scn)) P = P
+OnRefused (Err StoreFault) P = Unit {0}
+OnRefused (Err NoMemory) P = Unit {0}
+
+-- the count of a consumer's refusals hasn't fallen, and `Refused` comes only where it rose
+pub record HasRefusal (old new : ℕ) (result : Result Took TakeFault) : Type 0 where
+  pub later : old ≤ new
+  pub refused : OnRefused result (Rose old new)
 
 -- ---- rows and mark together
 

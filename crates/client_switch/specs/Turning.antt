@@ -11,7 +11,7 @@ use Rattle.event_codec.specs.declared.reply.Shape.TheVariants as shapes
 use Rattle.checkpoint.specs.declared.mark.Mark.{Mark}
 use Rattle.checkpoint.specs.declared.mark.Mark.TheVariants.{Online}
 use Rattle.checkpoint.specs.Mark.{IsMark, mark_text, floor_of}
-use Rattle.bus_stores.specs.Keeper.{KeeperState, BothTold, SameStore}
+use Rattle.bus_stores.specs.Keeper.{KeeperState, SameStore}
 use Rattle.bus_stores.specs.Taking.{MayFail}
 use Rattle.dispatcher.specs.Callbacks.{Call, taken, with_calls}
 use Rattle.dispatcher.specs.Callbacks.Callback.{OnRollback, OnCheckpoint}
@@ -86,27 +86,6 @@ CanCome mark (shapes.Windows count last) bytes = CanFollow mark count last bytes
 CanCome mark (shapes.Rows count scn more) bytes = ⊥
 CanCome mark (shapes.Changes count more) bytes = ⊥
 CanCome mark (shapes.Only answer) bytes = CanAnswer mark answer
-
--- ---- counts
-
--- the counts of a keeper haven't fallen
-pub record CountsKept (old new : KeeperState) : Type 0 where
-  pub calls : BothTold (λ a b. a ≤ b) old.calls new.calls
-  pub faults : old.faults ≤ new.faults
-
--- where a call answers `Refused`
-abbrev pub OnRefused : Result Took TakeFault → Type 0 → Type 0
-OnRefused (Ok took) P = Unit {0}
-OnRefused (Err Halted) P = Unit {0}
-OnRefused (Err (BadReply place)) P = Unit {0}
-OnRefused (Err (Refused scn)) P = P
-OnRefused (Err StoreFault) P = Unit {0}
-OnRefused (Err NoMemory) P = Unit {0}
-
--- the count of a consumer's refusals hasn't fallen, and `Refused` comes only where it rose
-pub record HasRefusal (old new : ℕ) (result : Result Took TakeFault) : Type 0 where
-  pub later : old ≤ new
-  pub refused : OnRefused result (Rose old new)
 
 -- ---- behind the callbacks of a reply
 

@@ -10,8 +10,8 @@ ghost use Rattle.dispatcher.specs.Callbacks.{with_calls, taken};
 ghost use Rattle.dispatcher.specs.Callbacks.Callback.{OnRollback};
 ghost use Rattle.client_switch.specs.Moves.{next_question};
 ghost use Rattle.client_switch.specs.Moves.Wish.{NoWish};
-ghost use Rattle.client_switch.specs.Client.{IsStored, Keeps, is_built, IsAskOf, asks, Takes, FloorKept, HoldsGood, AreTrueOf, KeepsGood};
-ghost use Rattle.client_switch.specs.Turning.{wish_of, CanStand, checkpoint_call, CanCome, CountsKept, HasRefusal, Settles};
+ghost use Rattle.client_switch.specs.Client.{IsStored, Keeps, is_built, IsAskOf, asks, Takes, CountsKept, HasRefusal, FloorKept, HoldsGood, AreTrueOf, KeepsGood};
+ghost use Rattle.client_switch.specs.Turning.{wish_of, CanStand, checkpoint_call, CanCome, Settles};
 
 use crate::fault::{AskRefusal, ClientOpen, TakeFault};
 use crate::turn::{Turn, turn_of};
@@ -194,11 +194,11 @@ impl Client {
     /// rows and mark.
     ///
     /// `Halted` comes exactly after an earlier `StoreFault`. `BadReply` comes where the bytes are no lawful reply, with
-    /// the place of the first item that can't stand; nobody is told. `Refused` comes where the consumer refused a
-    /// callback; it was then told to go back to the floor of the mark. `NoMemory` comes where memory ran out; the
-    /// consumer was told of the reply and then to go back. In all four cases client, rows and mark are as before.
-    /// `StoreFault` comes where the commit failed: rows and mark are as before it or as after it, and the client is
-    /// halted.
+    /// the place of the first item that can't stand, or is missing or cut; nobody is told. `Refused` comes where the
+    /// consumer refused a callback; it was then told to go back to the floor of the mark. `NoMemory` comes where memory
+    /// ran out; the consumer was told of the reply and then to go back. In all four cases client, rows and mark are as
+    /// before. `StoreFault` comes where the commit failed: rows and mark are as before it or as after it, and the client
+    /// is halted.
     #[tactic(auto, using(crate::proofs::KeepingGood::unchanged))]
     pub fn take<K: Keeper, C: Consumer>(
         &mut self,
@@ -227,7 +227,9 @@ impl Client {
             return Err(TakeFault::Halted);
         }
         let shape = check_reply(ask, reply)?;
-        dispatch(consumer, &shape, reply, self.mark.floor_of())?;
+        if let Err(refused) = dispatch(consumer, &shape, reply, self.mark.floor_of()) {
+            return Err(TakeFault::Refused { scn: refused.scn });
+        }
         self.settle(alloc, &shape, reply, keeper, consumer)
     }
 

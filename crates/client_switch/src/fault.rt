@@ -2,7 +2,6 @@ use bus_stores::StoreFault;
 use bus_types::NoMemory;
 use bus_wire::BadReply;
 use checkpoint::MarkFault;
-use dispatcher::Refused;
 
 /// Why no client was opened. The keeper's rows and mark are as before.
 #[derive(Clone, Copy, Debug, PartialEq, Eq)]
@@ -92,16 +91,5 @@ impl From<BadReply> for TakeFault {
 
     fn from(fault: BadReply) -> Self {
         TakeFault::BadReply { place: fault.place }
-    }
-}
-
-impl From<Refused> for TakeFault {
-    ghost use Rattle.std.specs.Prelude.{◌≡◌};
-    ghost use Rattle.client_switch.specs.declared.fault.TakeFault.TheVariants as faults;
-
-    ghost from_gives = { λ f e. e ≡ faults.Refused f.scn };
-
-    fn from(refused: Refused) -> Self {
-        TakeFault::Refused { scn: refused.scn }
     }
 }

@@ -20,7 +20,7 @@ returns-clause-takes g c =
     let lawful = c.in_ok-shape.ensures.ok in
     let reply = read c.args.ask.now c.args.reply.now c.in_ok-shape.shape lawful in
     takes_settled c.settle.result c.args.self.now c.settle.new.self c.args.ask.now c.args.reply.now c.in_ok-shape.shape _ _ _ _ _ reply.0
-    lawful reply.1 c.in_ok-dispatch.ensures.told c.settle.ensures.settles
+    lawful reply.1 (rw c.in_default.is at c.dispatch.ensures.told) c.settle.ensures.settles
 
 pub returns-clause-keeps : goal.returns-clause-keeps
 returns-clause-keeps g c =
