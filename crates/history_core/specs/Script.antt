@@ -1,0 +1,124 @@
+-- The state of a script, and what is printed of it.
+use Rattle.std.specs.Prelude.{ℕ, Bool, false, List, [], ◌∷◌, ◌++◌, length, flat_map, codes, decimal}
+use Rattle.hex.specs.Hex.{encode_lower}
+use Rattle.bus_types.specs.declared.change.Key.{Key}
+use Rattle.bus_types.specs.declared.change.Key.TheVariants.{Long}
+use Rattle.bus_types.specs.declared.change.RowName.{RowName}
+use Rattle.bus_types.specs.Window.{Span}
+use Rattle.bus_types.specs.Timeline.{end_of, total_size}
+use Rattle.bus_types.specs.Table.{RowList}
+use Rattle.bus_types.specs.View.{view}
+use Rattle.bus_types.specs.Relay.{Room, floor_of, Served}
+use Rattle.bus_types.specs.Relay.Served.{NotFound as NoWindow, Empty as NothingNew, TooSmall as TooLarge, Windows as SomeWindows}
+use Rattle.event_codec.specs.declared.answer.Answer.{Answer}
+use Rattle.event_codec.specs.declared.answer.Answer.TheVariants.{NotFound, Empty, TooSmall, Behind, LogGone, StartDelta, StartSnapshot, Target}
+use Rattle.partition_filter.specs.Selection.{Selection, test_of}
+use Rattle.checkpoint.specs.declared.mark.Mark.{Mark}
+use Rattle.checkpoint.specs.declared.mark.Mark.TheVariants.{Online, Delta, Snapshot, Scanned, Catchup}
+use Rattle.bus_stores.specs.declared.keeper.Stop.{Stop}
+use Rattle.bus_stores.specs.declared.keeper.Stop.TheVariants.{Before, After}
+use Rattle.client_switch.specs.Moves.{Wish, Reply}
+use Rattle.client_switch.specs.Moves.Reply.{Windows, Rows, Changes, Only}
+use Rattle.client_switch.specs.True.{Boot}
+use Rattle.std.specs.Prelude.{Option, Some, None}
+
+-- a consumer: its name, its filter, the marks that its commits set, what it wants beside the last of them, and the stop that
+-- its next commit meets
+pub record Follower : Type 0 where
+  pub name : List ℕ
+  pub filter : Selection
+  pub marks : List Mark
+  pub wish : Wish
+  pub armed : Option Stop
+
+-- whether a line that isn't blank has come, the windows that the source committed, the room of the relay, the SCN of the
+-- newest window that it published, or 0, the bootstrap's numbers, and the consumers in the order in which they were declared
+pub record State : Type 0 where
+  pub begun : Bool
+  pub windows : List Span
+  pub room : Room
+  pub end : ℕ
+  pub boot : Boot
+  pub consumers : List Follower
+
+-- the room of a relay of which no line says it
+abbrev pub usual_room : Room
+usual_room = record { bytes = 16777216; windows = 4096 }
+
+-- a bootstrap of which nothing was logged
+abbrev pub new_boot : Boot
+new_boot = record { base = 0; applied = 0; high = 0 }
+
+-- the bus before the first line
+abbrev pub start : State
+start = record { begun = false; windows = []; room = usual_room; end = 0; boot = new_boot; consumers = [] }
+
+-- the SCN of the newest window that the relay has evicted, or 0
+abbrev pub floor : State → ℕ
+floor s = floor_of s.room s.windows s.end
+
+-- the last of these marks, or the one before them
+abbrev pub mark_after : Mark → List Mark → Mark
+mark_after mark [] = mark
+mark_after mark (m ∷ ms) = mark_after m ms
+
+-- the mark that a consumer's keeper holds; without one it is online at 0
+abbrev pub mark_of : Follower → Mark
+mark_of c = mark_after (Online 0) c.marks
+
+-- ---- printed lines
+
+abbrev pub line_with : List ℕ → ℕ → List ℕ
+line_with word n = word ++ codes " " ++ decimal n ++ codes "\n"
+
+abbrev pub relay_line : ℕ → ℕ → List ℕ
+relay_line floor end = codes "relay " ++ decimal floor ++ codes " " ++ decimal end ++ codes "\n"
+
+abbrev pub served_line : ℕ → ℕ → List ℕ → ℕ → List ℕ
+served_line count bytes word scn = codes "served " ++ decimal count ++ codes " " ++ decimal bytes ++ word ++ decimal scn ++ codes "\n"
+
+abbrev pub answer_line : Answer → List ℕ
+answer_line (NotFound floor) = line_with (codes "notfound") floor
+answer_line (Empty end) = line_with (codes "empty") end
+answer_line (TooSmall need) = line_with (codes "small") need
+answer_line (Behind high) = line_with (codes "behind") high
+answer_line (LogGone base) = line_with (codes "gone") base
+answer_line (StartDelta high) = []
+answer_line (StartSnapshot applied) = []
+answer_line (Target target) = []
+
+-- what a poll prints of a reply that was taken. Rows, changes and starts are asked for by no consumer yet
+abbrev pub reply_line : Reply → List ℕ
+reply_line (Windows ws) = served_line (length ws) (total_size ws) (codes " online ") (end_of ws)
+reply_line (Rows cs scn more) = []
+reply_line (Changes cs scn more) = []
+reply_line (Only answer) = answer_line answer
+
+-- what a stream line prints of the relay's answer
+abbrev pub stream_line : Served → List ℕ
+stream_line (NoWindow floor) = line_with (codes "notfound") floor
+stream_line (NothingNew end) = line_with (codes "empty") end
+stream_line (TooLarge need) = line_with (codes "small") need
+stream_line (SomeWindows ws) = served_line (length ws) (total_size ws) (codes " last ") (end_of ws)
+
+-- what a poll prints whose commit met a stop
+abbrev pub stopped_line : Stop → List ℕ
+stopped_line Before = codes "stopped before\n"
+stopped_line After = codes "stopped after\n"
+
+abbrev pub key_text : Key → List ℕ
+key_text (Long k) = decimal k
+
+abbrev pub row_line : RowName × List ℕ → List ℕ
+row_line row = decimal row.0.source ++ codes "/" ++ key_text row.0.key ++ codes "=" ++ encode_lower row.1 ++ codes "\n"
+
+abbrev pub rows_text : List ℕ → ℕ → RowList → List ℕ
+rows_text name scn rows = codes "show " ++ name ++ codes " online " ++ decimal scn ++ codes " " ++ decimal (length rows) ++ codes "\n" ++ flat_map row_line rows
+
+-- what is shown of a consumer: online, its SCN and the view there; else its mode alone
+abbrev pub shown : List Span → Follower → Mark → List ℕ
+shown ws c (Online scn) = rows_text c.name scn (view (test_of c.filter) ws scn)
+shown ws c (Delta since target cursor) = codes "show " ++ c.name ++ codes " delta\n"
+shown ws c (Snapshot since start top cursor) = codes "show " ++ c.name ++ codes " snapshot\n"
+shown ws c (Scanned since start top) = codes "show " ++ c.name ++ codes " scanned\n"
+shown ws c (Catchup since start target at) = codes "show " ++ c.name ++ codes " catchup\n"

@@ -1,0 +1,24 @@
+ghost use Rattle.std.specs.Prelude.{◌≡◌, [], ◌∷◌, codes, Some};
+ghost use Rattle.bus_stores.specs.declared.keeper.Stop.TheVariants.{Before, After};
+ghost use Rattle.partition_filter.specs.Selection.{All};
+ghost use Rattle.history_core.specs.Script.{start};
+ghost use Rattle.history_core.specs.Steps.{relay_step, consumer_step, commit_step, feed_step, stop_step, poll_step, show_step, crash_step};
+ghost use Rattle.history_core.specs.Worked.{printed, put};
+
+/// What some lines do, by computation from the definitions alone.
+pub fn worked_steps()
+    ensures stops { printed start ((λ s. consumer_step s (codes "c") All) ∷ (λ s. commit_step s 10 (put 1 ∷ [])) ∷ (λ s. feed_step s 1)
+        ∷ (λ s. stop_step s (codes "c") Before) ∷ (λ s. poll_step s (codes "c") 1000) ∷ (λ s. show_step s (codes "c"))
+        ∷ (λ s. stop_step s (codes "c") After) ∷ (λ s. poll_step s (codes "c") 1000) ∷ (λ s. show_step s (codes "c"))
+        ∷ (λ s. crash_step s (codes "c")) ∷ (λ s. poll_step s (codes "c") 1000) ∷ [])
+        ≡ Some (codes "relay 0 10\nstopped before\nshow c online 0 0\nstopped after\nshow c online 10 1\n0/1=aa\nempty 10\n") }
+    ensures once { printed start ((λ s. consumer_step s (codes "c") All) ∷ (λ s. stop_step s (codes "c") Before) ∷ (λ s. poll_step s (codes "c") 1000)
+        ∷ (λ s. commit_step s 10 (put 1 ∷ [])) ∷ (λ s. feed_step s 1) ∷ (λ s. poll_step s (codes "c") 1000)
+        ∷ (λ s. poll_step s (codes "c") 1000) ∷ (λ s. poll_step s (codes "c") 1000) ∷ [])
+        ≡ Some (codes "empty 0\nrelay 0 10\nstopped before\nserved 1 41 online 10\nempty 10\n") }
+    ensures evicted { printed start ((λ s. relay_step s 1048576 2) ∷ (λ s. consumer_step s (codes "c") All) ∷ (λ s. commit_step s 10 (put 1 ∷ []))
+        ∷ (λ s. commit_step s 20 (put 2 ∷ [])) ∷ (λ s. commit_step s 30 (put 3 ∷ [])) ∷ (λ s. feed_step s 3)
+        ∷ (λ s. poll_step s (codes "c") 1000) ∷ (λ s. crash_step s (codes "c")) ∷ (λ s. poll_step s (codes "c") 1000)
+        ∷ (λ s. poll_step s (codes "c") 1000) ∷ (λ s. poll_step s (codes "c") 1000) ∷ [])
+        ≡ Some (codes "relay 10 30\nnotfound 10\nnotfound 10\nbehind 0\nnotfound 10\n") }
+{}
