@@ -1,0 +1,37 @@
+#!/usr/bin/env python3
+"""Times the built program on scripts of several sizes: seconds, microseconds a commit and lines a second, the best of
+five runs. Each script is what `GENERATOR COUNT` prints.
+
+Usage: timed.py GENERATOR COUNT ..
+"""
+import pathlib
+import subprocess
+import sys
+import tempfile
+import time
+
+HERE = pathlib.Path(__file__).resolve().parent
+PROGRAM = HERE.parent / "crates/databus/out/databus"
+RUNS = 5
+
+
+def seconds_of(script):
+    script.seek(0)
+    start = time.perf_counter()
+    subprocess.run([PROGRAM, "trace"], stdin=script, stdout=subprocess.DEVNULL, check=True)
+    return time.perf_counter() - start
+
+
+def main():
+    generator, *counts = sys.argv[1:]
+    print(f"{'commits':>8} {'lines':>8} {'seconds':>9} {'us/commit':>10} {'lines/s':>10}")
+    for count in counts:
+        with tempfile.TemporaryFile() as script:
+            subprocess.run([sys.executable, HERE / generator, count], stdout=script, check=True)
+            script.seek(0)
+            lines = sum(1 for _ in script)
+            best = min(seconds_of(script) for _ in range(RUNS))
+        print(f"{count:>8} {lines:>8} {best:>9.4f} {best / int(count) * 1e6:>10.2f} {lines / best:>10.0f}")
+
+
+main()
