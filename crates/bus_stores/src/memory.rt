@@ -67,6 +67,13 @@ impl MemoryKeeper {
         self.plan.armed = Some(stop_at(after));
     }
 
+    /// The stop that the next commit meets, where one is armed.
+    pub fn armed(&self) -> Option<Stop>
+        ensures { result ≡ self.now.armed }
+    {
+        self.plan.armed
+    }
+
     // Counts a call, and answers the stop that is listed for it.
     fn next_call(&mut self) -> Option<Stop>
         ensures listed { result ≡ listed_stop self.old.fails self.old.calls }

@@ -1,7 +1,8 @@
 ghost use Rattle.std.specs.Prelude.{◌≡◌, ◌<◌, ◌^◌, ◌++◌, map, length, IfOk, OnOk, IfSome};
 ghost use Rattle.bus_types.specs.Rows.{pair_of, last_from, RiseAfter};
 ghost use Rattle.bus_types.specs.declared.row.Cursor.TheVariants.{Start};
-ghost use Rattle.bus_stores.specs.Keeper.{Reads, IsTable};
+ghost use Rattle.bus_types.specs.Causes.{Rose};
+ghost use Rattle.bus_stores.specs.Keeper.{Reads, BothTold, IsTable};
 
 use crate::keeper::{Keeper, StoreFault};
 use bus_types::{Cursor, NoMemory, Row, Rows};
@@ -15,13 +16,15 @@ pub fn all_rows<K: Keeper>(alloc: Global, keeper: &mut K) -> Result<Rows, StoreF
     ensures read { Reads (λ c. c.rows) (K.state keeper.old) (K.state keeper.new) result }
     ensures ordered { OnOk result (IfSome (K.state keeper.old).content (λ c. IsTable c.rows)) }
     ensures rising { IfOk result (λ rows. RiseAfter Start rows) }
+    ensures counted { OnOk result (BothTold Rose (K.state keeper.old).calls (K.state keeper.new).calls) }
 {
     let mut all = Vec::new(alloc);
     'pages: loop {
         let page = keeper.rows_after(alloc, &cursor_behind(&all), PAGE)?;
-        let rows = page.items();
-        append(alloc, &mut all, rows)?;
-        if rows.len() < PAGE {
+        let mut rows = page.into_vec();
+        let count = rows.len();
+        append(&mut all, &mut rows)?;
+        if count < PAGE {
             return Ok(Rows::new(all));
         }
     }
@@ -40,17 +43,11 @@ fn cursor_behind(rows: &[Row]) -> Cursor
     }
 }
 
-// Appends copies of rows.
-fn append(alloc: Global, all: &mut Vec<Row>, rows: &[Row]) -> Result<(), NoMemory>
-    ensures rows { OnOk result (map pair_of all.new.items ≡ map pair_of all.old.items ++ map pair_of rows.now) }
+// Moves rows behind others.
+fn append(all: &mut Vec<Row>, rows: &mut Vec<Row>) -> Result<(), NoMemory>
+    ensures rows { OnOk result (map pair_of all.new.items ≡ map pair_of all.old.items ++ map pair_of rows.old.items) }
     ensures small { length all.new.items < 2 ^ 63 }
 {
-    for row in rows {
-        all.push(Row {
-            source: row.source,
-            key: row.key,
-            payload: row.payload.copy(alloc)?,
-        })?;
-    }
+    all.append(rows)?;
     Ok(())
 }

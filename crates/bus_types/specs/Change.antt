@@ -1,5 +1,5 @@
 -- Rows and their changes.
-use Rattle.std.specs.Prelude.{ℕ, ◌+◌, ◌<◌, ◌≤◌, ◌^◌, Bool, List, [], ◌∷◌, length, filter, Option, Some, None}
+use Rattle.std.specs.Prelude.{ℕ, ◌+◌, ◌<◌, ◌≤◌, ◌^◌, Bool, List, [], ◌∷◌, length, filter, decimal, Option, Some, None}
 use Rattle.std.specs.List.{AllByRecursion}
 use Rattle.std.specs.Ordering.{nat_cmp, ordering_then, is_eq}
 use Rattle.std.specs.declared.cmp.Ordering.{Ordering}
@@ -12,6 +12,10 @@ use Rattle.bus_types.specs.declared.limits.TheConstants.{MAX_PAYLOAD}
 -- keys in their order
 abbrev pub key_cmp : Key → Key → Ordering
 key_cmp (Long a) (Long b) = nat_cmp a b
+
+-- a key in a text
+abbrev pub key_text : Key → List ℕ
+key_text (Long k) = decimal k
 
 -- names by source, and then by key
 abbrev pub name_cmp : RowName → RowName → Ordering

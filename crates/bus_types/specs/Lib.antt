@@ -6,6 +6,5 @@ pub mod Table
 pub mod View
 pub mod Cut
 pub mod Relay
-pub mod Script
 pub mod Text
 pub mod Rows

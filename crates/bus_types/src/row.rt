@@ -62,6 +62,13 @@ impl Rows {
     {
         &self.items
     }
+
+    /// The rows, in order, without a copy.
+    pub fn into_vec(self) -> Vec<Row>
+        ensures { map pair_of result.items ≡ self }
+    {
+        self.items
+    }
 }
 
 /// The text of a checkpoint, as a keeper stores it. Contracts see the list of its bytes.

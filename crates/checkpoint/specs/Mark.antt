@@ -3,8 +3,7 @@ use Rattle.std.specs.Prelude.{ℕ, ◌<◌, ◌≤◌, ◌^◌, List, ◌++◌, 
 use Rattle.bus_types.specs.declared.row.Cursor.{Cursor}
 use Rattle.bus_types.specs.declared.row.Cursor.TheVariants.{Start, After}
 use Rattle.bus_types.specs.declared.limits.TheConstants.{MAX_SCN}
-use Rattle.bus_types.specs.Change.{IsKey}
-use Rattle.bus_types.specs.Script.{key_text}
+use Rattle.bus_types.specs.Change.{IsKey, key_text}
 use Rattle.checkpoint.specs.declared.mark.Mark.{Mark}
 use Rattle.checkpoint.specs.declared.mark.Mark.TheVariants.{Online, Delta, Snapshot, Scanned, Catchup}
 

@@ -130,6 +130,13 @@ impl Client {
         &self.mark
     }
 
+    /// Which rows it follows.
+    pub fn filter(&self) -> &Filter
+        ensures { result.now ≡ self.now.filter }
+    {
+        &self.filter
+    }
+
     /// Whether it has met a fault of its keeper, and so asks and takes nothing.
     pub fn is_halted(&self) -> bool
         ensures { result ≡ self.now.halted }
