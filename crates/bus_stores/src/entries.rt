@@ -6,7 +6,7 @@ ghost use Rattle.bus_types.specs.Table.{row_after, rows_after, payload_at};
 ghost use Rattle.bus_stores.specs.Keeper.{IsTable};
 ghost use Rattle.bus_stores.specs.Entries.{row_in, rows_in, HasRoom, HaveRoom, bound_of};
 
-use bus_types::{Change, Cursor, NoMemory, Payload, Row, RowName};
+use bus_types::{Change, Cursor, NoMemory, Payload, Row, RowName, copy_changes};
 use std::alloc::Global;
 use std::collections::BTreeMap;
 use std::ops::Bound;
@@ -31,17 +31,6 @@ pub(crate) fn change(
     }
     drop_room(entries, changes);
     made
-}
-
-// Equal changes, in the same order.
-fn copy_changes(alloc: Global, changes: &[Change]) -> Result<Vec<Change>, NoMemory>
-    ensures { IfOk result (λ copies. copies.items ≡ changes.now) }
-{
-    let mut copies = Vec::with_capacity(alloc, changes.len())?;
-    for change in changes {
-        copies.push(change.copy(alloc)?)?;
-    }
-    Ok(copies)
 }
 
 // Makes room for each name that changes. Rows stay as they are, and so does room.

@@ -28,7 +28,7 @@ pub use payload::{Payload, PayloadFault};
 pub use row::{Cursor, MarkText, Row, Rows};
 pub use text::{cut_text, read_number};
 pub use timeline::{Timeline, Untold};
-pub use window::{Window, WindowFault};
+pub use window::{Window, WindowFault, copy_changes};
 
 #[cfg(test)]
 mod tests;

@@ -52,8 +52,8 @@ fn is_bad_scn(scn: u64, prev: u64) -> bool
     scn == 0 || scn > MAX_SCN || scn <= prev
 }
 
-// Equal changes, in the same order.
-fn copy_changes(alloc: Global, changes: &[Change]) -> Result<Vec<Change>, NoMemory>
+/// Equal changes, in the same order.
+pub fn copy_changes(alloc: Global, changes: &[Change]) -> Result<Vec<Change>, NoMemory>
     ensures { IfOk result (λ copies. copies.items ≡ changes.now) }
 {
     let mut copies = Vec::with_capacity(alloc, changes.len())?;
