@@ -1,3 +1,6 @@
 pub mod Script
 pub mod Steps
+pub mod Run
+pub mod Bus
+pub mod Acting
 pub mod Worked

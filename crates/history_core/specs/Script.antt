@@ -1,9 +1,8 @@
 -- The state of a script, and what is printed of it.
-use Rattle.std.specs.Prelude.{ℕ, Bool, false, List, [], ◌∷◌, ◌++◌, length, flat_map, codes, decimal}
+use Rattle.std.specs.Prelude.{ℕ, Bool, false, List, [], ◌++◌, length, flat_map, codes, decimal, Option}
 use Rattle.hex.specs.Hex.{encode_lower}
-use Rattle.bus_types.specs.declared.change.Key.{Key}
-use Rattle.bus_types.specs.declared.change.Key.TheVariants.{Long}
 use Rattle.bus_types.specs.declared.change.RowName.{RowName}
+use Rattle.bus_types.specs.Change.{key_text}
 use Rattle.bus_types.specs.Window.{Span}
 use Rattle.bus_types.specs.Timeline.{end_of, total_size}
 use Rattle.bus_types.specs.Table.{RowList}
@@ -20,16 +19,17 @@ use Rattle.bus_stores.specs.declared.keeper.Stop.TheVariants.{Before, After}
 use Rattle.client_switch.specs.Moves.{Wish, Reply}
 use Rattle.client_switch.specs.Moves.Reply.{Windows, Rows, Changes, Only}
 use Rattle.client_switch.specs.True.{Boot}
-use Rattle.std.specs.Prelude.{Option, Some, None}
 
--- a consumer: its name, its filter, the marks that its commits set, what it wants beside the last of them, and the stop that
--- its next commit meets
+-- a consumer: its name, its filter, the mark that its keeper holds, what it wants beside it, the stop that its next commit
+-- meets, the texts of the marks that its commits set, in order, and how often its rows were shown
 pub record Follower : Type 0 where
   pub name : List ℕ
   pub filter : Selection
-  pub marks : List Mark
+  pub mark : Mark
   pub wish : Wish
   pub armed : Option Stop
+  pub marks : List (List ℕ)
+  pub shows : ℕ
 
 -- whether a line that isn't blank has come, the windows that the source committed, the room of the relay, the SCN of the
 -- newest window that it published, or 0, the bootstrap's numbers, and the consumers in the order in which they were declared
@@ -56,15 +56,6 @@ start = record { begun = false; windows = []; room = usual_room; end = 0; boot =
 -- the SCN of the newest window that the relay has evicted, or 0
 abbrev pub floor : State → ℕ
 floor s = floor_of s.room s.windows s.end
-
--- the last of these marks, or the one before them
-abbrev pub mark_after : Mark → List Mark → Mark
-mark_after mark [] = mark
-mark_after mark (m ∷ ms) = mark_after m ms
-
--- the mark that a consumer's keeper holds; without one it is online at 0
-abbrev pub mark_of : Follower → Mark
-mark_of c = mark_after (Online 0) c.marks
 
 -- ---- printed lines
 
@@ -105,9 +96,6 @@ stream_line (SomeWindows ws) = served_line (length ws) (total_size ws) (codes " 
 abbrev pub stopped_line : Stop → List ℕ
 stopped_line Before = codes "stopped before\n"
 stopped_line After = codes "stopped after\n"
-
-abbrev pub key_text : Key → List ℕ
-key_text (Long k) = decimal k
 
 abbrev pub row_line : RowName × List ℕ → List ℕ
 row_line row = decimal row.0.source ++ codes "/" ++ key_text row.0.key ++ codes "=" ++ encode_lower row.1 ++ codes "\n"

@@ -8,11 +8,15 @@ use Rattle.bus_types.specs.Relay.{stream}
 use Rattle.partition_filter.specs.Selection.{Selection, test_of}
 use Rattle.bus_stores.specs.declared.keeper.Stop.{Stop}
 use Rattle.bus_stores.specs.declared.keeper.Stop.TheVariants.{Before, After}
+use Rattle.bus_stores.specs.Memory.{next_count}
+use Rattle.checkpoint.specs.declared.mark.Mark.{Mark}
+use Rattle.checkpoint.specs.declared.mark.Mark.TheVariants.{Online}
+use Rattle.checkpoint.specs.Mark.{mark_text}
 use Rattle.client_switch.specs.Moves.{Wish, Question, Reply, Turn, question, turn}
 use Rattle.client_switch.specs.Moves.Wish.{NoWish}
 use Rattle.client_switch.specs.Moves.Question.{Stream, Start, Scan, Target, Catchup, Delta}
-use Rattle.client_switch.specs.True.{reply_of, boot_reply}
-use Rattle.history_core.specs.Script.{Follower, State, floor, mark_of, relay_line, stream_line, reply_line, stopped_line, shown}
+use Rattle.client_switch.specs.True.{Boot, reply_of, boot_reply}
+use Rattle.history_core.specs.Script.{Follower, State, floor, relay_line, stream_line, reply_line, stopped_line, shown}
 
 -- what a line leaves: the state after it and the text that it prints, or nothing where it is against a rule
 abbrev pub Step : Type 0
@@ -52,11 +56,14 @@ most_commits = 1000000
 unfoldable pub relay_step : State → ℕ → ℕ → Step
 relay_step s bytes windows = if s.begun then None else Some (record s { room = record { bytes = bytes; windows = windows } }, [])
 
--- a new consumer, without a row and a mark
+-- a consumer that follows the rows of a filter from before the first window, without a row and a stored mark
+abbrev pub new_follower : List ℕ → Selection → Follower
+new_follower name filter = record { name = name; filter = filter; mark = Online 0; wish = NoWish; armed = None; marks = []; shows = 0 }
+
 unfoldable pub consumer_step : State → List ℕ → Selection → Step
 consumer_step s name filter =
     if is_some (place_of name s.consumers) || nat_le most_consumers (length s.consumers) then None
-    else Some (record s { consumers = s.consumers ++ (record { name = name; filter = filter; marks = []; wish = NoWish; armed = None }) ∷ [] }, [])
+    else Some (record s { consumers = s.consumers ++ new_follower name filter ∷ [] }, [])
 
 abbrev pub next_window : State → ℕ → List Change → Span
 next_window s scn changes = record { scn = scn; prev = end_of s.windows; changes = changes }
@@ -82,31 +89,41 @@ stream_step s scn test max = Some (s, stream_line (stream s.windows (floor s) s.
 
 -- ---- polls
 
--- the reply to who asks for the rows of a test: the relay's to who asks for windows, else the bootstrap's
-abbrev pub replied : State → Test → Question → Reply
-replied s test (Stream scn most) = reply_of (stream s.windows (floor s) s.end scn test most)
-replied s test (Start since fresh) = boot_reply s.windows test s.boot (Start since fresh)
-replied s test (Scan begins cursor most) = boot_reply s.windows test s.boot (Scan begins cursor most)
-replied s test (Target begins least) = boot_reply s.windows test s.boot (Target begins least)
-replied s test (Catchup at target most) = boot_reply s.windows test s.boot (Catchup at target most)
-replied s test (Delta since target cursor most) = boot_reply s.windows test s.boot (Delta since target cursor most)
+-- the reply to who asks for the rows of a test, of a relay that evicted the windows up to floor and published those up to end,
+-- and of a bootstrap with these numbers: the relay's to who asks for windows, else the bootstrap's
+abbrev pub replied : List Span → ℕ → ℕ → Boot → Test → Question → Reply
+replied ws floor end boot test (Stream scn most) = reply_of (stream ws floor end scn test most)
+replied ws floor end boot test (Start since fresh) = boot_reply ws test boot (Start since fresh)
+replied ws floor end boot test (Scan begins cursor most) = boot_reply ws test boot (Scan begins cursor most)
+replied ws floor end boot test (Target begins least) = boot_reply ws test boot (Target begins least)
+replied ws floor end boot test (Catchup at target most) = boot_reply ws test boot (Catchup at target most)
+replied ws floor end boot test (Delta since target cursor most) = boot_reply ws test boot (Delta since target cursor most)
 
--- a consumer whose commit met this stop, or none, and what is printed of it. The one before it counts leaves the marks as they
--- are; after either the client is opened again, with no wish
+-- a commit counts: the mark is set
+abbrev pub marked : Follower → Turn → Follower
+marked c t = record c { mark = t.mark; marks = c.marks ++ mark_text t.mark ∷ []; wish = t.wish }
+
+-- a client that is opened again from its keeper, whose stop was met, wants nothing
+abbrev pub reopened : Follower → Follower
+reopened c = record c { wish = NoWish; armed = None }
+
+-- a consumer whose commit met this stop, or none, and what is printed of it: the one before it counts leaves the mark as it is
 abbrev pub committed : Option Stop → Follower → Turn → List ℕ → Follower × List ℕ
-committed None c t text = (record c { marks = c.marks ++ t.mark ∷ []; wish = t.wish }, text)
-committed (Some Before) c t text = (record c { wish = NoWish; armed = None }, stopped_line Before)
-committed (Some After) c t text = (record c { marks = c.marks ++ t.mark ∷ []; wish = NoWish; armed = None }, stopped_line After)
+committed None c t text = (marked c t, text)
+committed (Some Before) c t text = (reopened c, stopped_line Before)
+committed (Some After) c t text = (reopened (marked c t), stopped_line After)
 
 -- a consumer after a turn, and what is printed of it
 abbrev pub turned : Follower → Turn → List ℕ → Follower × List ℕ
 turned c t text = if t.commits then committed c.armed c t text else (record c { wish = t.wish }, text)
 
+-- a consumer that took a reply, and what is printed of it
+abbrev pub after_reply : Follower → Reply → Follower × List ℕ
+after_reply c reply = turned c (turn c.mark reply) (reply_line reply)
+
 -- one ask of a consumer, and its reply
 abbrev pub asked : State → Follower → ℕ → Follower × List ℕ
-asked s c max =
-    let reply = replied s (test_of c.filter) (question (mark_of c) c.wish max) in
-    turned c (turn (mark_of c) reply) (reply_line reply)
+asked s c max = after_reply c (replied s.windows (floor s) s.end s.boot (test_of c.filter) (question c.mark c.wish max))
 
 unfoldable pub poll_step : State → List ℕ → ℕ → Step
 poll_step s name max = at_name s name (λ i c. let a = asked s c max in (with_consumer s i a.0, a.1))
@@ -121,5 +138,10 @@ crash_step s name = at_name s name (λ i c. (with_consumer s i (record c { wish 
 unfoldable pub stop_step : State → List ℕ → Stop → Step
 stop_step s name stop = at_name s name (λ i c. (with_consumer s i (record c { armed = Some stop }), []))
 
+-- a consumer whose rows were shown, where it is online
+abbrev pub looked_at : Mark → Follower → Follower
+looked_at (Online scn) c = record c { shows = next_count c.shows }
+looked_at mark c = c
+
 unfoldable pub show_step : State → List ℕ → Step
-show_step s name = at_name s name (λ i c. (s, shown s.windows c (mark_of c)))
+show_step s name = at_name s name (λ i c. (with_consumer s i (looked_at c.mark c), shown s.windows c c.mark))

@@ -1,8 +1,23 @@
-//! The bus of a script: what each of its lines does to the source, the relay and the consumers, each with the marks that
-//! its keeper holds, and what it prints (`specs/`). It stands on `client_switch` for what a client asks and what a reply
-//! makes of it. So far it is definitions and worked rows; the bus that works so is to come.
+//! The bus of a script: a source, a relay, and consumers with clients and keepers. `Bus::step` takes one line and writes
+//! what it prints; `specs/` says what each line does to the state of a script, and `script`, what a whole input means. It
+//! stands on `client_switch` for the clients, on `relay_core` for the relay's replies, on `source_db` for the commits and on
+//! `trace_script` for the lines. The layer above hands each line of its input to `Bus::step`.
 #![tactic(auto)]
 
+mod bus;
+mod fault;
+mod laws;
+mod member;
+mod poll;
+mod rows;
+mod text;
 mod worked;
 
+pub use bus::Bus;
+pub use fault::StepFault;
+pub use laws::consumers_never_go_back;
+pub use rows::{
+    worked_script_of_many_windows, worked_scripts, worked_scripts_of_a_relay,
+    worked_scripts_of_stops, worked_scripts_of_streams,
+};
 pub use worked::worked_steps;

@@ -1,0 +1,88 @@
+-- What the parts of a step do, before what it prints is written.
+use Rattle.std.specs.Prelude.{◌≡◌, ℕ, ◌≤◌, false, List, [], take, length, codes, Option, Some, None, Result, Ok, Err, Vec}
+use Rattle.std.specs.Global.{Global}
+use Rattle.std.specs.List.{AllByRecursion}
+use Rattle.bus_types.specs.Window.{Span}
+use Rattle.bus_types.specs.Timeline.{end_of, end_from, windows_between}
+use Rattle.bus_types.specs.Relay.{Relay, StandsFor, answer_of}
+use Rattle.partition_filter.specs.Selection.{test_of}
+use Rattle.event_codec.specs.declared.answer.Answer.TheVariants.{Behind}
+use Rattle.event_codec.specs.declared.reply.Shape.{Shape}
+use Rattle.event_codec.specs.declared.reply.Shape.TheVariants.{Windows, Rows, Changes, Only}
+use Rattle.event_codec.specs.Frames.{answer_bytes}
+use Rattle.event_codec.specs.Reply.{reply_bytes}
+use Rattle.bus_wire.specs.declared.ask.Ask.{Ask}
+use Rattle.bus_wire.specs.declared.ask.Ask.TheVariants.{Stream, Start}
+use Rattle.bus_stores.specs.Memory.{MemoryStore}
+use Rattle.client_switch.specs.Moves.{question}
+use Rattle.history_core.specs.declared.fault.StepFault.{StepFault}
+use Rattle.history_core.specs.declared.fault.StepFault.TheVariants.{BadLine, WriteFault, NoMemory}
+use Rattle.history_core.specs.Script.{Follower, new_boot, shown, served_line, answer_line}
+use Rattle.history_core.specs.Steps.{Step, replied, after_reply, looked_at}
+use Rattle.history_core.specs.Bus.{MemberState, Parts, follower, state_of, IsMember, IsSound, WasCalled}
+
+-- ---- consumers
+
+-- a keeper was read: all but its counts is as it was
+pub record WasRead (old new : MemoryStore) : Type 0 where
+  pub rows : new.rows ≡ old.rows
+  pub marks : new.marks ≡ old.marks
+  pub armed : new.armed ≡ old.armed
+  pub fails : new.fails ≡ old.fails
+  pub later : old.calls ≤ new.calls
+
+-- a consumer became this follower, and is one of the source's still
+pub record Becomes (ws : List Span) (next : Follower) (new : MemberState) : Type 0 where
+  pub follows : follower new ≡ next
+  pub member : IsMember ws new
+
+-- the bytes of the reply to an ask: the relay's, or that of a bootstrap that has logged nothing
+abbrev pub sent : Relay → Ask → List ℕ
+sent r (Stream scn filter most) = reply_bytes (answer_of r scn (test_of filter) most)
+sent r (Start since fresh) = answer_bytes (Behind 0)
+
+-- what a poll prints of a reply of this shape, with so many bytes
+abbrev pub shape_line : Shape → ℕ → List ℕ
+shape_line (Windows count last) bytes = served_line count bytes (codes " online ") last
+shape_line (Rows count scn more) bytes = []
+shape_line (Changes count more) bytes = []
+shape_line (Only answer) bytes = answer_line answer
+
+-- a consumer asked a relay that follows these windows, in at most so many bytes, and took the reply
+pub record Polls (ws : List Span) (r : Relay) (most : ℕ) (old new : MemberState) (text : List ℕ) : Type 0 where
+  pub turn : (follower new, text) ≡ after_reply (follower old) (replied ws r.floor r.tail new_boot (test_of old.client.filter) (question old.client.mark old.client.wish most))
+  pub member : IsMember ws new
+
+-- a consumer was shown
+pub record Shows (ws : List Span) (old new : MemberState) (text : List ℕ) : Type 0 where
+  pub printed : text ≡ shown ws (follower old) old.client.mark
+  pub follows : follower new ≡ looked_at old.client.mark (follower old)
+  pub member : IsMember ws new
+  pub called : WasCalled old new
+
+-- ---- lines
+
+-- a bus at work, whether a line that isn't blank has come or not
+pub record IsWorking (b : Parts) : Type 0 where
+  pub relay : StandsFor b.source b.relay
+  pub members : AllByRecursion (IsMember b.source) b.members
+
+-- what a line does, against the state and the text that are defined for it, before it is kept that a line has come
+abbrev pub Acts : Result (Vec ℕ Global) StepFault → Step → Parts → Parts → Type 0
+Acts (Ok text) defined old new = (defined ≡ Some (state_of new, text.items)) × IsWorking new
+Acts (Err BadLine) defined old new = (defined ≡ None) × (new ≡ old)
+Acts (Err (WriteFault count)) defined old new = ⊥
+Acts (Err NoMemory) defined old new = Unit {0}
+
+-- a whole line likewise, after which the bus is sound
+abbrev pub Does : Result (Vec ℕ Global) StepFault → Step → Parts → Parts → Type 0
+Does (Ok text) defined old new = (defined ≡ Some (state_of new, text.items)) × IsSound new
+Does (Err BadLine) defined old new = (defined ≡ None) × (new ≡ old)
+Does (Err (WriteFault count)) defined old new = ⊥
+Does (Err NoMemory) defined old new = Unit {0}
+
+-- windows that follow a relay's newest one were published: it stands for each timeline whose next windows they are
+pub record Publishes (windows : List Span) (old new : Relay) : Type 0 where
+  pub room : new.room ≡ old.room
+  pub tail : new.tail ≡ end_from old.tail windows
+  pub stands : (ws : List Span) → StandsFor ws old → windows ≡ take (length windows) (windows_between old.tail (end_of ws) ws) → StandsFor ws new

@@ -1,0 +1,127 @@
+-- The bus as it is kept, against the state of a script.
+use Rattle.std.specs.Prelude.{◌≡◌, ℕ, ◌≤◌, Bool, true, false, List, [], length, map, take, slice_get, Option, Some, None, Result, Ok, Err}
+use Rattle.std.specs.List.{AllByRecursion}
+use Rattle.std.specs.Io.KnownBytes.{Appends}
+use Rattle.bus_types.specs.Causes.{Rose}
+use Rattle.bus_types.specs.Window.{Span}
+use Rattle.bus_types.specs.Relay.{Relay, StandsFor}
+use Rattle.partition_filter.specs.Selection.{test_of}
+use Rattle.checkpoint.specs.declared.mark.Mark.{Mark}
+use Rattle.checkpoint.specs.declared.mark.Mark.TheVariants.{Online, Delta, Snapshot, Scanned, Catchup}
+use Rattle.bus_stores.specs.Memory.{MemoryStore, last_mark}
+use Rattle.client_switch.specs.Moves.{Wish}
+use Rattle.client_switch.specs.Moves.Wish.{NoWish, StartWish, FreshWish}
+use Rattle.client_switch.specs.Good.{Good}
+use Rattle.client_switch.specs.Client.{Held, IsStored}
+use Rattle.trace_script.specs.declared.line.Line.{Line}
+use Rattle.trace_script.specs.declared.line.Line.TheVariants.{Show}
+use Rattle.history_core.specs.declared.fault.StepFault.{StepFault}
+use Rattle.history_core.specs.declared.fault.StepFault.TheVariants.{BadLine, WriteFault, NoMemory}
+use Rattle.history_core.specs.Script.{Follower, State, new_boot}
+use Rattle.history_core.specs.Steps.{Step, place_of}
+
+-- ---- what a bus is to a contract
+
+-- a consumer as a bus keeps it: its name, its client, its keeper, and how often its rows were shown
+pub record MemberState : Type 0 where
+  pub name : List ℕ
+  pub client : Held
+  pub store : MemoryStore
+  pub shows : ℕ
+
+-- whether a line that isn't blank has come, the windows of the source, the relay, and the consumers in the order in which they
+-- were declared
+pub record Parts : Type 0 where
+  pub begun : Bool
+  pub source : List Span
+  pub relay : Relay
+  pub members : List MemberState
+
+-- a consumer without its rows
+abbrev pub follower : MemberState → Follower
+follower m = record { name = m.name; filter = m.client.filter; mark = m.client.mark; wish = m.client.wish; armed = m.store.armed; marks = m.store.marks; shows = m.shows }
+
+abbrev pub followers : List MemberState → List Follower
+followers ms = map follower ms
+
+-- the state of the script whose bus it is
+abbrev pub state_of : Parts → State
+state_of b = record { begun = b.begun; windows = b.source; room = b.relay.room; end = b.relay.tail; boot = new_boot; consumers = followers b.members }
+
+-- ---- when a bus is sound
+
+-- the marks and wishes that a script reaches so far, where the bootstrap has logged nothing
+abbrev pub IsReached : Mark → Wish → Type 0
+IsReached (Online scn) NoWish = Unit {0}
+IsReached (Online scn) StartWish = Unit {0}
+IsReached (Online scn) FreshWish = ⊥
+IsReached (Delta since target cursor) wish = ⊥
+IsReached (Snapshot since start top cursor) wish = ⊥
+IsReached (Scanned since start top) wish = ⊥
+IsReached (Catchup since start target at) wish = ⊥
+
+-- a consumer's client runs; its keeper fails only at a stop that is armed, holds the client's mark, or none where no commit was
+-- made, and rows that are good for it, and was called at least as often as its rows were shown
+pub record IsMember (ws : List Span) (m : MemberState) : Type 0 where
+  pub runs : m.client.halted ≡ false
+  pub sound : m.store.fails ≡ []
+  pub stored : IsStored (last_mark m.store.marks) m.client.mark
+  pub good : Good ws (test_of m.client.filter) m.client.mark m.store.rows
+  pub shown : m.shows ≤ m.store.calls
+  pub reached : IsReached m.client.mark m.client.wish
+
+-- a bus between two lines: its relay keeps the source's windows behind its floor, up to its end, and its consumers follow the
+-- source. Where no line has come that isn't blank, nothing was committed or declared
+pub record IsSound (b : Parts) : Type 0 where
+  pub relay : StandsFor b.source b.relay
+  pub members : AllByRecursion (IsMember b.source) b.members
+  pub untouched : b.begun ≡ false → (b.source ≡ []) × (b.members ≡ [])
+
+-- ---- what a line does to it
+
+-- a line was taken, and what it prints was written: the state is the one that is defined
+pub record TookLine (defined : Step) (new : Parts) (written written' : Option (List ℕ)) : Type 0 where
+  pub text : List ℕ
+  pub is : defined ≡ Some (state_of new, text)
+  pub sound : IsSound new
+  pub wrote : Appends written written' text
+
+-- of the text of a line only a front of this length was written
+pub record BrokeOff (defined : Step) (count : ℕ) (written written' : Option (List ℕ)) : Type 0 where
+  pub next : State
+  pub text : List ℕ
+  pub is : defined ≡ Some (next, text)
+  pub wrote : Appends written written' (take count text)
+
+-- a step, by its answer: a bad line is one that nothing is defined for, and changes nothing; where memory ran out nothing was
+-- written. After a fault of writing and after want of memory the bus isn't used again
+abbrev pub Steps : Result Unit StepFault → Step → Parts → Parts → Option (List ℕ) → Option (List ℕ) → Type 0
+Steps (Ok done) defined old new written written' = TookLine defined new written written'
+Steps (Err BadLine) defined old new written written' = (defined ≡ None) × (new ≡ old) × (written' ≡ written)
+Steps (Err (WriteFault count)) defined old new written written' = BrokeOff defined count written written'
+Steps (Err NoMemory) defined old new written written' = written' ≡ written
+
+-- where a step answers `WriteFault`
+abbrev pub OnWriteFault : Result Unit StepFault → Type 0 → Type 0
+OnWriteFault (Ok done) P = Unit {0}
+OnWriteFault (Err BadLine) P = Unit {0}
+OnWriteFault (Err (WriteFault count)) P = P
+OnWriteFault (Err NoMemory) P = Unit {0}
+
+-- ---- calls of keepers
+
+abbrev pub OnOnline : Mark → Type 0 → Type 0
+OnOnline (Online scn) P = P
+OnOnline (Delta since target cursor) P = Unit {0}
+OnOnline (Snapshot since start top cursor) P = Unit {0}
+OnOnline (Scanned since start top) P = Unit {0}
+OnOnline (Catchup since start target at) P = Unit {0}
+
+-- the keeper of a consumer that is online was called
+abbrev pub WasCalled : MemberState → MemberState → Type 0
+WasCalled m n = OnOnline m.client.mark (Rose m.store.calls n.store.calls)
+
+-- a line that shows a consumer's rows calls its keeper
+abbrev pub Calls : Line → Parts → Parts → Type 0
+Calls (Show name) old new = (i : ℕ) (m n : MemberState) → place_of name (followers old.members) ≡ Some i → slice_get old.members i ≡ Some m → slice_get new.members i ≡ Some n → WasCalled m n
+Calls line old new = Unit {0}

@@ -1,0 +1,361 @@
+ghost use Rattle.std.specs.Prelude.{◌≡◌, ◌≤◌, ◌<◌, List, [], length, map, take, true, Some, IfSome, IfOk, OnOk, IsErrOf};
+ghost use Rattle.bus_types.specs.Causes.{Rose};
+ghost use Rattle.bus_types.specs.Timeline.{IsTimelineFrom};
+ghost use Rattle.partition_filter.specs.Selection.{test_of};
+ghost use Rattle.bus_stores.specs.Memory.{stop_at};
+ghost use Rattle.trace_script.specs.Spelling.{is_in_range};
+ghost use Rattle.history_core.specs.Script.{start};
+ghost use Rattle.history_core.specs.Steps.{Step, begin, place_of, relay_step, consumer_step, commit_step, feed_step, stream_step, poll_step, crash_step, stop_step, show_step};
+ghost use Rattle.history_core.specs.Run.{act, line_step};
+ghost use Rattle.history_core.specs.Bus.{Parts, state_of, followers, IsSound, Steps, OnWriteFault, Calls};
+ghost use Rattle.history_core.specs.Acting.{Acts, Does, Publishes};
+
+use crate::fault::StepFault;
+use crate::member::Member;
+use crate::text;
+use bus_io::{Sink, write_all};
+use bus_stores::MemoryKeeper;
+use bus_types::{Changes, NoMemory, Window, copy_changes};
+use partition_filter::Filter;
+use plain_buffer::PlainBuffer;
+use relay_core::{Buffer, relay_answer};
+use source_db::SourceDb;
+use std::alloc::Global;
+use std::marker::Model;
+use trace_script::{Line, Name};
+
+/// The most consumers of a bus.
+const MOST_CONSUMERS: usize = 64;
+
+/// The most windows of a script.
+const MOST_COMMITS: u64 = 1_000_000;
+
+/// A source, a relay, and consumers that follow the source, each with a client and a keeper of its rows and its mark in
+/// memory. Contracts see the source's windows, the relay, and what clients and keepers tell; `state_of` is the state of
+/// the script whose bus it is, and `IsSound` says that all of it fits together (`docs/DEFINITIONS.md`).
+#[derive(Debug, Drop)]
+pub struct Bus {
+    begun: bool,
+    source: SourceDb,
+    relay: PlainBuffer,
+    members: Vec<Member>,
+    /// Empty, with room for each consumer's keeper.
+    room: Vec<MemoryKeeper>,
+}
+
+impl Model for Bus {
+    ghost use Rattle.std.specs.Prelude.{◌≡◌, ◌≤◌, [], length};
+    ghost use Rattle.std.specs.Vec.{vec_capacity};
+    ghost use Rattle.history_core.specs.Bus.{Parts};
+
+    ghost Value = { Parts };
+
+    ghost view = { λ b. record { begun = b.begun; source = b.source; relay = b.relay; members = b.members.items } };
+
+    ghost invariant = { λ b. (b.room.items ≡ []) × (length b.members.items ≤ vec_capacity b.room) };
+}
+
+impl Bus {
+    /// A bus without a commit and without a consumer, whose relay keeps at most so many bytes of windows in full, from
+    /// 1,048,576 to 268,435,456, and at most so many windows, from 1 to 65,536.
+    pub fn new(alloc: Global, bytes: u64, windows: u32) -> Result<Bus, NoMemory>
+        requires some_bytes { 1048576 ≤ bytes }
+        requires few_bytes { bytes ≤ 268435456 }
+        requires some_windows { 1 ≤ windows }
+        requires few_windows { windows ≤ 65536 }
+        ensures state { IfOk result (λ bus. state_of bus ≡ record start { room = record { bytes = bytes; windows = windows } }) }
+        ensures sound { IfOk result IsSound }
+    {
+        Ok(Bus {
+            begun: false,
+            source: SourceDb::new(alloc),
+            relay: PlainBuffer::new(alloc, bytes, windows)?,
+            members: Vec::new(alloc),
+            room: Vec::new(alloc),
+        })
+    }
+
+    /// Takes a line, and writes what it prints.
+    ///
+    /// `BadLine` comes exactly where the line is against a rule in this state of the bus, or has a number outside the
+    /// ranges of the grammar; bus and output are then as before. `WriteFault` comes only where the output's count rose,
+    /// and tells how many bytes of the line's text went out. After it and after want of memory, where nothing was
+    /// written, the bus isn't used again.
+    pub fn step<W: Sink>(
+        &mut self,
+        alloc: Global,
+        line: &Line,
+        out: &mut W,
+    ) -> Result<(), StepFault>
+        requires { IsSound self.old }
+        ensures steps { Steps result (line_step (state_of self.old) line.now) self.old self.new (W.written out.old) (W.written out.new) }
+        ensures untouched { IsErrOf result StepFault.BadLine → out.new ≡ out.old }
+
+        // Whoever shows a consumer's rows reads them from its keeper.
+        ensures calls { OnOk result (Calls line.now self.old self.new) }
+
+        // A fault of the output comes only where its count rose.
+        ensures later { W.faults out.old ≤ W.faults out.new }
+        ensures write_fault { OnWriteFault result (Rose (W.faults out.old) (W.faults out.new)) }
+    {
+        if !line.is_in_range() {
+            return Err(StepFault::BadLine);
+        }
+        let text = self.act(alloc, line)?;
+        write_all(out, &text)?;
+        Ok(())
+    }
+
+    /// The consumers' keepers, in order of declaration. It takes no memory.
+    pub fn keepers(self) -> Vec<MemoryKeeper>
+        ensures { result.items ≡ map (λ m. m.store) self.members }
+    {
+        let mut keepers = self.room;
+        for member in self.members {
+            keepers.push_reserved(member.into_keeper());
+        }
+        keepers
+    }
+
+    // Takes a line whose numbers are in range, and gives the text that it prints.
+    fn act(&mut self, alloc: Global, line: &Line) -> Result<Vec<u8>, StepFault>
+        requires sound { IsSound self.old }
+        requires range { is_in_range line.now ≡ true }
+        ensures does { Does result (act (state_of self.old) line.now) self.old self.new }
+        ensures calls { OnOk result (Calls line.now self.old self.new) }
+    {
+        match line {
+            Line::Blank => Ok(Vec::new(alloc)),
+            Line::Relay { bytes, windows } => {
+                let done = self.set_room(alloc, *bytes, *windows);
+                self.begin(done)
+            }
+            Line::Consumer { name, filter } => {
+                let done = self.declare(alloc, *name, filter);
+                self.begin(done)
+            }
+            Line::Commit { scn, changes } => {
+                let done = self.commit(alloc, *scn, changes);
+                self.begin(done)
+            }
+            Line::Feed(count) => {
+                let done = self.feed(alloc, *count);
+                self.begin(done)
+            }
+            Line::Stream { scn, filter, max } => {
+                let done = self.stream(alloc, *scn, filter, *max);
+                self.begin(done)
+            }
+            Line::Poll { name, max } => {
+                let done = self.poll(alloc, name, *max);
+                self.begin(done)
+            }
+            Line::Crash(name) => {
+                let done = self.crash(alloc, name);
+                self.begin(done)
+            }
+            Line::Stop { name, after } => {
+                let done = self.stop(alloc, name, *after);
+                self.begin(done)
+            }
+            Line::Show(name) => {
+                let done = self.show(alloc, name);
+                self.begin(done)
+            }
+        }
+    }
+
+    // Keeps, where a line was taken, that a line that isn't blank has come.
+    fn begin(&mut self, done: Result<Vec<u8>, StepFault>) -> Result<Vec<u8>, StepFault>
+        ensures { (first : Parts) (defined : Step) → Acts done defined first self.old → Does result (begin defined) first self.new }
+        ensures members { self.new.members ≡ self.old.members }
+    {
+        match done {
+            Ok(text) => {
+                self.begun = true;
+                Ok(text)
+            }
+            Err(fault) => Err(fault),
+        }
+    }
+
+    // The room of the relay.
+    #[tactic(auto, unfolding(crate::specs::Steps::relay_step))]
+    fn set_room(&mut self, alloc: Global, bytes: u64, windows: u32) -> Result<Vec<u8>, StepFault>
+        requires sound { IsSound self.old }
+        requires least_bytes { 1048576 ≤ bytes }
+        requires most_bytes { bytes ≤ 268435456 }
+        requires least_windows { 1 ≤ windows }
+        requires most_windows { windows ≤ 65536 }
+        ensures { Acts result (relay_step (state_of self.old) bytes windows) self.old self.new }
+    {
+        if self.begun {
+            return Err(StepFault::BadLine);
+        }
+        self.relay = PlainBuffer::new(alloc, bytes, windows)?;
+        Ok(Vec::new(alloc))
+    }
+
+    // A new consumer.
+    #[tactic(auto, unfolding(crate::specs::Steps::consumer_step))]
+    fn declare(
+        &mut self,
+        alloc: Global,
+        name: Name,
+        filter: &Filter,
+    ) -> Result<Vec<u8>, StepFault>
+        requires { IsSound self.old }
+        ensures { Acts result (consumer_step (state_of self.old) name filter.now) self.old self.new }
+    {
+        if place(&self.members, name.bytes()).is_some() {
+            return Err(StepFault::BadLine);
+        }
+        if self.members.len() >= MOST_CONSUMERS {
+            return Err(StepFault::BadLine);
+        }
+        self.room.reserve(self.members.len() + 1)?;
+        let filter = filter.copy(alloc)?;
+        self.members.push(Member::new(alloc, name, filter)?)?;
+        Ok(Vec::new(alloc))
+    }
+
+    // The source commits a window.
+    #[tactic(auto, unfolding(crate::specs::Steps::commit_step))]
+    fn commit(
+        &mut self,
+        alloc: Global,
+        scn: u64,
+        changes: &Changes,
+    ) -> Result<Vec<u8>, StepFault>
+        requires { IsSound self.old }
+        ensures { Acts result (commit_step (state_of self.old) scn changes.now) self.old self.new }
+    {
+        let changes = copy_changes(alloc, changes.items())?;
+        let Ok(window) = Window::new(scn, self.source.last(), changes) else {
+            return Err(StepFault::BadLine);
+        };
+        let _within = window.size();
+        if self.source.count() >= MOST_COMMITS {
+            return Err(StepFault::BadLine);
+        }
+        self.source.append(window)?;
+        Ok(Vec::new(alloc))
+    }
+
+    // The relay publishes the next commits.
+    fn feed(&mut self, alloc: Global, count: u64) -> Result<Vec<u8>, StepFault>
+        requires { IsSound self.old }
+        ensures { Acts result (feed_step (state_of self.old) count) self.old self.new }
+    {
+        let next = first(self.source.windows_after(self.relay.tail()), count);
+        publish(alloc, &mut self.relay, next)?;
+        Ok(text::relay(alloc, self.relay.floor(), self.relay.tail())?.into_bytes())
+    }
+
+    // What the relay answers to who isn't a consumer.
+    #[tactic(auto, unfolding(crate::specs::Steps::stream_step))]
+    fn stream(
+        &self,
+        alloc: Global,
+        scn: u64,
+        filter: &Filter,
+        max: u32,
+    ) -> Result<Vec<u8>, StepFault>
+        requires { IsSound self.now }
+        ensures { Acts result (stream_step (state_of self.now) scn (test_of filter.now) max) self.now self.now }
+    {
+        let mut reply = Vec::new(alloc);
+        let served = relay_answer(alloc, &self.relay, scn, filter, max, &mut reply)?;
+        Ok(text::stream(alloc, served)?.into_bytes())
+    }
+
+    // A consumer asks, and takes the reply.
+    #[tactic(auto, unfolding(crate::specs::Steps::poll_step))]
+    fn poll(&mut self, alloc: Global, name: &Name, max: u32) -> Result<Vec<u8>, StepFault>
+        requires { IsSound self.old }
+        ensures { Acts result (poll_step (state_of self.old) name.now max) self.old self.new }
+    {
+        let Some(i) = place(&self.members, name.bytes()) else {
+            return Err(StepFault::BadLine);
+        };
+        let member = &mut self.members[i];
+        Ok(member.poll(alloc, &self.relay, max)?)
+    }
+
+    // A consumer's client is opened again.
+    #[tactic(auto, unfolding(crate::specs::Steps::crash_step))]
+    fn crash(&mut self, alloc: Global, name: &Name) -> Result<Vec<u8>, StepFault>
+        requires { IsSound self.old }
+        ensures { Acts result (crash_step (state_of self.old) name.now) self.old self.new }
+    {
+        let Some(i) = place(&self.members, name.bytes()) else {
+            return Err(StepFault::BadLine);
+        };
+        let member = &mut self.members[i];
+        member.crash(alloc)?;
+        Ok(Vec::new(alloc))
+    }
+
+    // A consumer's next commit is to fail.
+    #[tactic(auto, unfolding(crate::specs::Steps::stop_step))]
+    fn stop(&mut self, alloc: Global, name: &Name, after: bool) -> Result<Vec<u8>, StepFault>
+        requires { IsSound self.old }
+        ensures { Acts result (stop_step (state_of self.old) name.now (stop_at after)) self.old self.new }
+    {
+        let Some(i) = place(&self.members, name.bytes()) else {
+            return Err(StepFault::BadLine);
+        };
+        let member = &mut self.members[i];
+        member.stop(after);
+        Ok(Vec::new(alloc))
+    }
+
+    // What a consumer has.
+    #[tactic(auto, unfolding(crate::specs::Steps::show_step))]
+    fn show(&mut self, alloc: Global, name: &Name) -> Result<Vec<u8>, StepFault>
+        requires { IsSound self.old }
+        ensures acts { Acts result (show_step (state_of self.old) name.now) self.old self.new }
+        ensures calls { OnOk result (Calls (Line.Show name.now) self.old self.new) }
+    {
+        let Some(i) = place(&self.members, name.bytes()) else {
+            return Err(StepFault::BadLine);
+        };
+        let member = &mut self.members[i];
+        Ok(member.show(alloc)?)
+    }
+}
+
+// Where the consumer of this name stands.
+fn place(members: &[Member], name: &[u8]) -> Option<usize>
+    ensures place { result ≡ place_of name.now (followers members.now) }
+    ensures within { IfSome result (λ i. i < length members.now) }
+{
+    for (i, member) in members.iter().enumerate() {
+        if member.name.bytes() == name {
+            return Some(i);
+        }
+    }
+    None
+}
+
+// The first so many windows, or those there are.
+fn first(windows: &[Window], count: u64) -> &[Window]
+    ensures { result.now ≡ take count windows.now }
+{
+    if count < windows.len() as u64 {
+        &windows[..count as usize]
+    } else {
+        windows
+    }
+}
+
+// The relay publishes windows that follow each other and its newest one.
+fn publish(alloc: Global, relay: &mut PlainBuffer, windows: &[Window]) -> Result<(), NoMemory>
+    requires { IsTimelineFrom relay.old.tail windows.now }
+    ensures { OnOk result (Publishes windows.now relay.old relay.new) }
+{
+    for window in windows {
+        relay.publish(alloc, window)?;
+    }
+    Ok(())
+}

@@ -1,0 +1,83 @@
+ghost use Rattle.std.specs.Prelude.{◌≡◌, List, IfOk};
+ghost use Rattle.bus_types.specs.Window.{Span};
+ghost use Rattle.bus_types.specs.Relay.{StandsFor};
+ghost use Rattle.history_core.specs.Bus.{IsMember};
+ghost use Rattle.history_core.specs.Acting.{sent, Polls};
+
+use crate::member::Member;
+use crate::text;
+use bus_stores::Stop;
+use bus_types::NoMemory;
+use bus_wire::Ask;
+use client_switch::{AskRefusal, TakeFault};
+use dispatcher::NoCallbacks;
+use event_codec::{Answer, answer_bytes};
+use plain_buffer::PlainBuffer;
+use relay_core::relay_answer;
+use std::alloc::Global;
+
+/// The SCN that the bootstrap has come to: it has logged nothing yet.
+const BOOT_HIGH: u64 = 0;
+
+/// The bytes of the reply to an ask.
+fn answer(alloc: Global, relay: &PlainBuffer, ask: &Ask) -> Result<Vec<u8>, NoMemory>
+    ensures { IfOk result (λ reply. reply.items ≡ sent relay.now ask.now) }
+{
+    let mut reply = Vec::new(alloc);
+    match ask {
+        Ask::Stream { scn, filter, max } => {
+            relay_answer(alloc, relay, *scn, filter, *max, &mut reply)?;
+        }
+        Ask::Start { .. } => {
+            reply.extend_from_slice(&answer_bytes(&Answer::Behind(BOOT_HIGH)))?;
+        }
+    }
+    Ok(reply)
+}
+
+impl Member {
+    /// One ask of the relay or of the bootstrap, and what is made of the reply: at most one commit. The text is what it
+    /// prints. After want of memory it isn't used again.
+    pub fn poll(
+        &mut self,
+        alloc: Global,
+        relay: &PlainBuffer,
+        max: u32,
+    ) -> Result<Vec<u8>, NoMemory>
+        requires { (ws : List Span) × StandsFor ws relay.now × IsMember ws self.old }
+        ensures { IfOk result (λ text. (ws : List Span) → StandsFor ws relay.now → IsMember ws self.old → Polls ws relay.now max self.old self.new text.items) }
+    {
+        let ask = self.ask(alloc, max)?;
+        let reply = answer(alloc, relay, &ask)?;
+        let armed = self.keeper.armed();
+        match self
+            .client
+            .take(alloc, &ask, &reply, &mut self.keeper, &mut NoCallbacks)
+        {
+            Ok(took) => text::reply(alloc, &took.shape, reply.len() as u64),
+            Err(TakeFault::StoreFault) => self.stopped(alloc, armed),
+            Err(TakeFault::NoMemory) => Err(NoMemory),
+            Err(
+                TakeFault::Halted | TakeFault::BadReply { .. } | TakeFault::Refused { .. },
+            ) => unreachable!(),
+        }
+    }
+
+    // What its client asks.
+    fn ask(&self, alloc: Global, max: u32) -> Result<Ask, NoMemory> {
+        match self.client.ask(alloc, max) {
+            Ok(ask) => Ok(ask),
+            Err(AskRefusal::NoMemory) => Err(NoMemory),
+            Err(AskRefusal::Halted) => unreachable!(),
+        }
+    }
+
+    // Opens its client again, whose commit met this stop.
+    fn stopped(&mut self, alloc: Global, stop: Option<Stop>) -> Result<Vec<u8>, NoMemory> {
+        self.crash(alloc)?;
+        match stop {
+            Some(stop) => text::stopped(alloc, stop),
+            None => unreachable!(),
+        }
+    }
+}

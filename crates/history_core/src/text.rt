@@ -1,0 +1,125 @@
+ghost use Rattle.std.specs.Prelude.{◌≡◌, ◌++◌, map, codes, decimal, IfOk, OnOk, string_bytes};
+ghost use Rattle.bus_types.specs.Relay as relays;
+ghost use Rattle.bus_types.specs.Rows.{pair_of};
+ghost use Rattle.event_codec.specs.Reply.{IsServed};
+ghost use Rattle.history_core.specs.Script.{relay_line, line_with, served_line, stream_line, answer_line, stopped_line, row_line, rows_text};
+ghost use Rattle.history_core.specs.Acting.{shape_line};
+
+use bus_stores::Stop;
+use bus_types::{Key, NoMemory, Row};
+use event_codec::{Answer, Served, Shape};
+use std::alloc::Global;
+
+/// What a line prints that moves the relay.
+pub(crate) fn relay(alloc: Global, floor: u64, end: u64) -> Result<String, NoMemory>
+    ensures { IfOk result (λ text. string_bytes text ≡ relay_line floor end) }
+{
+    Ok(format!(in alloc; "relay {floor} {end}\n")?)
+}
+
+// A word and a number.
+fn line_with(alloc: Global, word: &str, number: u64) -> Result<String, NoMemory>
+    ensures { IfOk result (λ text. string_bytes text ≡ line_with word.now number) }
+{
+    Ok(format!(in alloc; "{word} {number}\n")?)
+}
+
+/// What a poll prints of a reply of this shape, with so many bytes, that its consumer took.
+pub(crate) fn reply(alloc: Global, shape: &Shape, bytes: u64) -> Result<Vec<u8>, NoMemory>
+    ensures { IfOk result (λ text. text.items ≡ shape_line shape.now bytes) }
+{
+    match shape {
+        Shape::Windows { count, last } => {
+            Ok(format!(in alloc; "served {count} {bytes} online {last}\n")?.into_bytes())
+        }
+        Shape::Only(answer) => answered(alloc, answer),
+        Shape::Rows { .. } | Shape::Changes { .. } => Ok(Vec::new(alloc)),
+    }
+}
+
+// What a poll prints of an answer.
+fn answered(alloc: Global, answer: &Answer) -> Result<Vec<u8>, NoMemory>
+    ensures { IfOk result (λ text. text.items ≡ answer_line answer.now) }
+{
+    match *answer {
+        Answer::NotFound(floor) => Ok(line_with(alloc, "notfound", floor)?.into_bytes()),
+        Answer::Empty(end) => Ok(line_with(alloc, "empty", end)?.into_bytes()),
+        Answer::TooSmall(need) => Ok(line_with(alloc, "small", need)?.into_bytes()),
+        Answer::Behind(high) => Ok(line_with(alloc, "behind", high)?.into_bytes()),
+        Answer::LogGone(base) => Ok(line_with(alloc, "gone", base)?.into_bytes()),
+        Answer::StartDelta(_) | Answer::StartSnapshot(_) | Answer::Target(_) => Ok(Vec::new(alloc)),
+    }
+}
+
+/// What a stream line prints of what the relay serves.
+pub(crate) fn stream(alloc: Global, served: Served) -> Result<String, NoMemory>
+    ensures { (answer : relays.Served) → IsServed served answer → IfOk result (λ text. string_bytes text ≡ stream_line answer) }
+{
+    match served {
+        Served::NotFound(floor) => line_with(alloc, "notfound", floor),
+        Served::Empty(end) => line_with(alloc, "empty", end),
+        Served::TooSmall(need) => line_with(alloc, "small", need),
+        Served::Windows { count, last, bytes } => {
+            Ok(format!(in alloc; "served {count} {bytes} last {last}\n")?)
+        }
+    }
+}
+
+/// What a poll prints whose commit met a stop.
+pub(crate) fn stopped(alloc: Global, stop: Stop) -> Result<Vec<u8>, NoMemory>
+    ensures { IfOk result (λ text. text.items ≡ stopped_line stop) }
+{
+    match stop {
+        Stop::Before => Ok(Vec::from_slice(alloc, b"stopped before\n")?),
+        Stop::After => Ok(Vec::from_slice(alloc, b"stopped after\n")?),
+    }
+}
+
+/// What is shown of a consumer that isn't online.
+pub(crate) fn mode(alloc: Global, name: &[u8], mode: &[u8]) -> Result<Vec<u8>, NoMemory>
+    ensures { IfOk result (λ text. text.items ≡ codes "show " ++ name.now ++ mode.now) }
+{
+    let mut text = Vec::from_slice(alloc, b"show ")?;
+    text.extend_from_slice(name)?;
+    text.extend_from_slice(mode)?;
+    Ok(text)
+}
+
+/// What is shown of a consumer that is online: its SCN and its rows.
+pub(crate) fn show(
+    alloc: Global,
+    name: &[u8],
+    scn: u64,
+    rows: &[Row],
+) -> Result<Vec<u8>, NoMemory>
+    ensures { IfOk result (λ text. text.items ≡ rows_text name.now scn (map pair_of rows.now)) }
+{
+    let mut text = heading(alloc, name, scn, rows.len())?;
+    for row in rows {
+        put_row(alloc, &mut text, row)?;
+    }
+    Ok(text)
+}
+
+// The line before the rows.
+fn heading(alloc: Global, name: &[u8], scn: u64, count: usize) -> Result<Vec<u8>, NoMemory>
+    ensures { IfOk result (λ text. text.items ≡ codes "show " ++ name.now ++ codes " online " ++ decimal scn ++ codes " " ++ decimal count ++ codes "\n") }
+{
+    let mut text = Vec::from_slice(alloc, b"show ")?;
+    text.extend_from_slice(name)?;
+    let rest = format!(in alloc; " online {scn} {count}\n")?;
+    text.extend_from_slice(rest.as_bytes())?;
+    Ok(text)
+}
+
+// Appends the line of a row.
+fn put_row(alloc: Global, text: &mut Vec<u8>, row: &Row) -> Result<(), NoMemory>
+    ensures { OnOk result (text.new.items ≡ text.old.items ++ row_line (pair_of row.now)) }
+{
+    let Key::Long(key) = row.key;
+    let source = row.source;
+    let digits = hex::encode(alloc, row.payload.bytes())?;
+    let line = format!(in alloc; "{source}/{key}={digits}\n")?;
+    text.extend_from_slice(line.as_bytes())?;
+    Ok(())
+}
