@@ -1,7 +1,7 @@
 -- Rows that were read so far, and the rest.
-use Rattle.std.proofs.Common.{◌≡◌, ℕ, zero, suc, ◌+◌, ◌-◌, ◌<◌, Bool, true, false, cond, List, [], ◌∷◌, ◌++◌, Ordering, Less, Equal, Greater, length, take, drop, map, get_or, Option, Some, None, IfSome, is_lt, true≢false, refl, sym, ap, subst, ◌∙◌, arith, append_assoc}
+use Rattle.std.proofs.Common.{◌≡◌, ℕ, zero, suc, ◌-◌, ◌<◌, Bool, true, false, cond, List, [], ◌∷◌, ◌++◌, Ordering, Less, Equal, Greater, length, take, drop, map, Option, Some, None, IfSome, is_lt, true≢false, refl, sym, ap, subst, ◌∙◌, arith, append_assoc}
 use Rattle.std.specs.Prelude.{Ok, slice_get}
-use Rattle.std.proofs.lemmas.List.{map-append, take_more, take_all, take-append-drop, length-take}
+use Rattle.std.proofs.lemmas.List.{take_all, take-append-drop, length-take}
 use Rattle.std.proofs.lemmas.Option.{slice_get_within}
 use Rattle.std.proofs.lemmas.Cmp.{tied_itself}
 use Rattle.bus_types.specs.declared.change.RowName.{RowName}
@@ -15,17 +15,6 @@ use Rattle.bus_types.proofs.Names.{name_cmp_total}
 use Rattle.bus_stores.specs.Keeper.{KeeperState, Content, IsTable, Reads}
 use Rattle.bus_stores.proofs.Pages.{rest_rises}
 use Rattle.bus_stores.proofs.Held.{Kept, kept_more, kept_ok}
-
--- ---- copies of rows
-
--- one row more
-pub copied_more : (old new before rows : List Row) (i : ℕ) (r : Row) (x : Row) → i < length rows → r ≡ get_or rows i r → new ≡ old ++ x ∷ [] → pair_of x ≡ pair_of r → map pair_of old ≡ map pair_of before ++ map pair_of (take i rows) → map pair_of new ≡ map pair_of before ++ map pair_of (take (i + 1) rows)
-copied_more old new before rows i r x lt is pushed same h =
-    let front = take_more rows i r lt ∙ ap (λ d. take i rows ++ d ∷ []) (sym is) in
-    ap (map pair_of) pushed ∙ map-append pair_of old (x ∷ []) ∙ ap (λ l. l ++ pair_of x ∷ []) h
-    ∙ append_assoc (map pair_of before) (map pair_of (take i rows)) (pair_of x ∷ [])
-    ∙ ap (λ p. map pair_of before ++ (map pair_of (take i rows) ++ p ∷ [])) same
-    ∙ ap (λ l. map pair_of before ++ l) (sym (map-append pair_of (take i rows) (r ∷ [])) ∙ ap (map pair_of) (sym front))
 
 last_at : (n : ℕ) (cursor : Cursor) (rows : List Row) (x : Row) → length rows ≡ suc n → slice_get rows n ≡ Some x → last_from cursor (map pair_of rows) ≡ After x.source x.key
 last_at n cursor [] x e f = absurd (omega arith)

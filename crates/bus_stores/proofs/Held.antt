@@ -1,6 +1,7 @@
 -- What a keeper keeps from call to call.
 use Rattle.std.proofs.Common.{◌≡◌, ℕ, ◌≤◌, true, Option, None, Some, IfSome, refl, sym, subst, ◌∙◌, arith, inl, inr}
 use Rattle.std.specs.Prelude.{Result, Ok, option_map, ◌⊎◌}
+use Rattle.bus_types.specs.Causes.{Rose}
 use Rattle.bus_stores.specs.declared.keeper.StoreFault.{StoreFault}
 use Rattle.bus_stores.specs.declared.keeper.Stop.{Stop}
 use Rattle.bus_stores.specs.declared.keeper.Stop.TheVariants.{Before, After}
@@ -36,6 +37,18 @@ kept_more asked old now new result k r = record {
   calls = both_later old.calls now.calls new.calls k.calls r.counts.calls;
   faults = omega arith;
 }
+
+both_rose : (a b c : Option ℕ) → BothTold (λ m n. m ≤ n) a b → BothTold Rose b c → BothTold Rose a c
+both_rose None None None p q = tt
+both_rose None None (Some z) p q = absurd q
+both_rose None (Some y) c p q = absurd p
+both_rose (Some x) None c p q = absurd p
+both_rose (Some x) (Some y) None p q = absurd q
+both_rose (Some x) (Some y) (Some z) p q = omega arith
+
+-- a call that is counted, behind others
+pub counted_on : (old now new : KeeperState) → Kept old now → BothTold Rose now.calls new.calls → BothTold Rose old.calls new.calls
+counted_on old now new k rose = both_rose old.calls now.calls new.calls k.calls rose
 
 -- what several reads answer together
 pub kept_ok : {Y : Type 0} (whole : Content → Y) (old now : KeeperState) (y : Y) → Kept old now → IfSome old.content (λ c. y ≡ whole c) → Reads whole old now (Ok y)

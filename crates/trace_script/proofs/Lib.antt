@@ -5,5 +5,4 @@ pub mod WordTexts
 pub mod FilterTexts
 pub mod LineTexts
 pub mod LineLaws
-pub mod Consumers
 pub mod WrittenTexts

@@ -1,10 +1,8 @@
--- The lines of an input that comes in pieces, and runs over them.
+-- The lines of an input that comes in pieces.
 use Rattle.std.proofs.Common.{◌≡◌, ℕ, ◌+◌, ◌<◌, ◌≤◌, Bool, true, false, cond, ◌||◌, nat_lt, nat_le, eqb, List, [], ◌∷◌, ◌++◌, length, refl, sym, ap, ◌∙◌, append_assoc, append-nil, arith}
 use Rattle.std.proofs.lemmas.Bool.{ltb-true, lt-ltb, ne_eqb}
 use Rattle.std.proofs.lemmas.List.{length-append}
-use Rattle.bus_types.specs.Script.{State}
-use Rattle.trace_script.specs.Run.{RawLine, lines_from, lines_of, IsPart, IsWhole, has_end, whole_part, most_lines, longest_line, longest_input, is_too_long, Played, before, ended, played}
-use Rattle.trace_script.specs.Run.Ending.{TooLongAt}
+use Rattle.trace_script.specs.Input.{RawLine, lines_from, lines_of, IsPart, IsWhole, has_end, whole_part, most_lines, longest_line, longest_input, is_too_long}
 
 -- what stands before the line so far, and behind it
 pub lines_from-append : (line part rest : List ℕ) → IsPart part → lines_from line (part ++ rest) ≡ lines_from (line ++ part) rest
@@ -64,17 +62,22 @@ still_long count used part first text size long =
     (λ h. let lt = ltb-true longest_input (used + length part) h in lt-ltb longest_input (used + first.size) (omega arith))
     long
 
-pub long_part : (s : State) (count used : ℕ) (part rest : List ℕ) → IsPart part → 0 < length part → is_long_part count used part ≡ true → played s count used (lines_of (part ++ rest)) ≡ ended (TooLongAt (count + 1))
-unfolding played
-long_part s count used part rest p some long =
-    let b = begins part rest some in
-    let lines : lines_of (part ++ rest) ≡ b.first ∷ b.others = lines_from-append [] part rest p ∙ b.parts in
-    let first : is_too_long count used b.first ≡ true = still_long count used part b.first b.text b.size long in
-    rw (lines, first) refl
+-- the first line is too long
+pub record BeginsLong (count used : ℕ) (lines : List RawLine) : Type 0 where
+  pub first : RawLine
+  pub others : List RawLine
+  pub parts : lines ≡ first ∷ others
+  pub long : is_too_long count used first ≡ true
 
--- text before text
-pub before-before : (a b : List ℕ) (p : Played) → before a (before b p) ≡ before (a ++ b) p
-before-before a b p = ap (λ (t : List ℕ). record p { text = t }) (sym (append_assoc a b p.text))
+pub long_part : (count used : ℕ) (part rest : List ℕ) → IsPart part → 0 < length part → is_long_part count used part ≡ true → BeginsLong count used (lines_of (part ++ rest))
+long_part count used part rest p some long =
+    let b = begins part rest some in
+    record {
+      first = b.first;
+      others = b.others;
+      parts = lines_from-append [] part rest p ∙ b.parts;
+      long = still_long count used part b.first b.text b.size long;
+    }
 
 -- ---- whole lines
 

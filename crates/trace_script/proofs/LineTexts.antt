@@ -14,14 +14,14 @@ use Rattle.bus_types.specs.Change.{IsChange, AreChanges}
 use Rattle.trace_script.specs.declared.fault.LineFault.{LineFault}
 use Rattle.trace_script.specs.declared.fault.LineFault.TheVariants.{BadLine, NoMemory}
 use Rattle.trace_script.specs.declared.line.Line.{Line}
-use Rattle.trace_script.specs.declared.line.Line.TheVariants.{Blank, Relay, Consumer, Commit, Feed, Poll, Show, Stream}
+use Rattle.trace_script.specs.declared.line.Line.TheVariants.{Blank, Relay, Consumer, Commit, Feed, Poll, Show, Crash, Stop, Stream}
 use Rattle.bus_types.specs.declared.limits.TheConstants.{MAX_SCN}
 use Rattle.bus_types.specs.Text.{number_of, max_u64}
 use Rattle.partition_filter.specs.Selection.{Selection}
 use Rattle.partition_filter.specs.Spelling.{IsFilter, filter_text}
 use Rattle.trace_script.specs.Words.{words_of, number_in, is_name_text, name_of, selection_of, changes_of}
-use Rattle.trace_script.specs.Lines.{is_blank, relay_of, consumer_of, commit_of, feed_of, poll_of, show_of, stream_of, words_line, line_of}
-use Rattle.trace_script.specs.Spelling.{IsName, IsRoom, IsLine, Spells, change_text, line_words}
+use Rattle.trace_script.specs.Lines.{is_blank, relay_of, consumer_of, commit_of, feed_of, poll_of, show_of, crash_of, when_of, stop_of, stream_of, words_line, line_of}
+use Rattle.trace_script.specs.Spelling.{IsName, IsRoom, IsLine, Spells, change_text, when_text, line_words}
 use Rattle.trace_script.specs.Reading.{Reads}
 use Rattle.bus_types.proofs.Options.{bind_some, chosen}
 use Rattle.bus_types.proofs.Numbers.{number_taken, number_again}
@@ -122,6 +122,44 @@ show_taken (name ∷ []) line h =
 show_taken [] line h = cc h
 show_taken (name ∷ more ∷ words) line h = cc h
 
+crash_taken : (words : List (List ℕ)) (line : Line) → crash_of words ≡ Some line → HasWords (codes "crash" ∷ words) line
+unfolding crash_of
+crash_taken (name ∷ []) line h =
+    let known = bind_some (name_of name) _ line h in
+    let whole : Crash known.0 ≡ line = cc (known.2) in
+    let named = name_taken name known.0 known.1 in
+    rw (← whole) (named.1, cc (named.0))
+crash_taken [] line h = cc h
+crash_taken (name ∷ more ∷ words) line h = cc h
+
+when_taken : (word : List ℕ) (after : Bool) → when_of word ≡ Some after → word ≡ when_text after
+unfolding when_of
+when_taken word after h =
+    elim (chosen (bytes_eq word (codes "before")) (Some false) _ (Some after) h) [
+      | inl same ↦
+          let which : false ≡ after = cc (same.1) in
+          rw (← which) ((bytes_eq-Decides word (codes "before")).0 same.0)
+      | inr other ↦ elim (chosen (bytes_eq word (codes "after")) (Some true) None (Some after) other.1) [
+        | inl same ↦
+            let which : true ≡ after = cc (same.1) in
+            rw (← which) ((bytes_eq-Decides word (codes "after")).0 same.0)
+        | inr none ↦ cc (none.1)
+      ]
+    ]
+
+stop_taken : (words : List (List ℕ)) (line : Line) → stop_of words ≡ Some line → HasWords (codes "stop" ∷ words) line
+unfolding stop_of
+stop_taken (name ∷ when ∷ []) line h =
+    let known = bind_some (name_of name) _ line h in
+    let after = bind_some (when_of when) _ line known.2 in
+    let whole : Stop known.0 after.0 ≡ line = cc (after.2) in
+    let named = name_taken name known.0 known.1 in
+    let spelled = when_taken when after.0 after.1 in
+    rw (← whole) (named.1, cc (named.0, spelled))
+stop_taken [] line h = cc h
+stop_taken (name ∷ []) line h = cc h
+stop_taken (name ∷ when ∷ more ∷ words) line h = cc h
+
 stream_taken : (words : List (List ℕ)) (line : Line) → stream_of words ≡ Some line → HasWords (codes "stream" ∷ words) line
 unfolding stream_of
 stream_taken (scn ∷ filter ∷ max ∷ []) line h =
@@ -158,7 +196,9 @@ words_taken (word ∷ words) line h =
     (λ h. by_name word (codes "feed") words line (feed_of words) _ h (feed_taken words line)
     (λ h. by_name word (codes "poll") words line (poll_of words) _ h (poll_taken words line)
     (λ h. by_name word (codes "show") words line (show_of words) _ h (show_taken words line)
-    (λ h. by_name word (codes "relay") words line (relay_of words) None h (relay_taken words line) (λ h. cc h)))))))
+    (λ h. by_name word (codes "crash") words line (crash_of words) _ h (crash_taken words line)
+    (λ h. by_name word (codes "stop") words line (stop_of words) _ h (stop_taken words line)
+    (λ h. by_name word (codes "relay") words line (relay_of words) None h (relay_taken words line) (λ h. cc h)))))))))
 
 joined : (text : List ℕ) (words : List (List ℕ)) → words_of text ≡ words → text ≡ join_with_byte 32 words
 joined text words same = sym (join_with_byte-slice_split 32 text) ∙ ap (join_with_byte 32) same
@@ -171,6 +211,8 @@ text_taken text (Commit scn changes) h = (h.0, joined text _ h.1)
 text_taken text (Feed count) h = (h.0, joined text _ h.1)
 text_taken text (Poll name max) h = (h.0, joined text _ h.1)
 text_taken text (Show name) h = (h.0, joined text _ h.1)
+text_taken text (Crash name) h = (h.0, joined text _ h.1)
+text_taken text (Stop name after) h = (h.0, joined text _ h.1)
 text_taken text (Stream scn filter max) h = (h.0, joined text _ h.1)
 
 pub line_taken : (text : List ℕ) (line : Line) → line_of text ≡ Some line → Spells text line
@@ -213,6 +255,10 @@ are_full-changes : (changes : List Change) → AreChanges changes → has_empty 
 are_full-changes [] within = refl
 are_full-changes (c ∷ cs) within = rw (is_full-change c within.0) (are_full-changes cs within.1)
 
+is_full-when : (after : Bool) → (length (when_text after) == 0) ≡ false
+is_full-when false = refl
+is_full-when true = refl
+
 are_full : (line : Line) → IsLine line → has_empty (line_words line) ≡ false
 are_full Blank h = refl
 are_full (Relay bytes windows) h = rw (is_full-decimal bytes (omega arith), is_full-decimal windows (omega arith)) refl
@@ -221,6 +267,8 @@ are_full (Commit scn changes) h = rw (is_full-decimal scn h.0) (are_full-changes
 are_full (Feed count) h = rw (is_full-decimal count (omega arith)) refl
 are_full (Poll name max) h = rw (is_full-name name h.0, is_full-decimal max (omega arith)) refl
 are_full (Show name) h = rw (is_full-name name h) refl
+are_full (Crash name) h = rw (is_full-name name h) refl
+are_full (Stop name after) h = rw (is_full-name name h, is_full-when after) refl
 are_full (Stream scn filter max) h = rw (is_full-decimal scn (omega arith), is_full-filter filter h.1, is_full-decimal max (omega arith)) refl
 
 taken_full : (words : List (List ℕ)) (line : Line) → HasWords words line → has_empty words ≡ false
@@ -231,6 +279,8 @@ taken_full words (Commit scn changes) h = rw h.1 (are_full (Commit scn changes) 
 taken_full words (Feed count) h = rw h.1 (are_full (Feed count) h.0)
 taken_full words (Poll name max) h = rw h.1 (are_full (Poll name max) h.0)
 taken_full words (Show name) h = rw h.1 (are_full (Show name) h.0)
+taken_full words (Crash name) h = rw h.1 (are_full (Crash name) h.0)
+taken_full words (Stop name after) h = rw h.1 (are_full (Stop name after) h.0)
 taken_full words (Stream scn filter max) h = rw h.1 (are_full (Stream scn filter max) h.0)
 
 none_taken : (read : Option Line) → ((line : Line) → read ≡ Some line → ⊥) → read ≡ None
@@ -243,6 +293,10 @@ no_line words empty = none_taken (words_line words) (λ line read. cc (empty, ta
 
 -- ---- what is spelled so is read
 
+IsWord-when : (after : Bool) → IsWord (when_text after)
+IsWord-when false = refl
+IsWord-when true = refl
+
 words_are : (line : Line) → IsLine line → AllByRecursion IsWord (line_words line)
 words_are Blank h = tt
 words_are (Relay bytes windows) h = (refl, (IsWord-decimal bytes (omega arith), (IsWord-decimal windows (omega arith), tt)))
@@ -251,6 +305,8 @@ words_are (Commit scn changes) h = (refl, (IsWord-decimal scn h.0, words-changes
 words_are (Feed count) h = (refl, (IsWord-decimal count (omega arith), tt))
 words_are (Poll name max) h = (refl, (IsWord-name name h.0, (IsWord-decimal max (omega arith), tt)))
 words_are (Show name) h = (refl, (IsWord-name name h, tt))
+words_are (Crash name) h = (refl, (IsWord-name name h, tt))
+words_are (Stop name after) h = (refl, (IsWord-name name h, (IsWord-when after, tt)))
 words_are (Stream scn filter max) h = (refl, (IsWord-decimal scn (omega arith), (IsWord-filter filter h.1, (IsWord-decimal max (omega arith), tt))))
 
 from_words : (word : List ℕ) (words : List (List ℕ)) (line : Line) → AllByRecursion IsWord (word ∷ words)
@@ -288,6 +344,15 @@ show_again : (name : List ℕ) → IsName name → words_line (line_words (Show 
 unfolding words_line show_of name_of
 show_again name named = rw named refl
 
+crash_again : (name : List ℕ) → IsName name → words_line (line_words (Crash name)) ≡ Some (Crash name)
+unfolding words_line crash_of name_of
+crash_again name named = rw named refl
+
+stop_again : (name : List ℕ) (after : Bool) → IsName name → words_line (line_words (Stop name after)) ≡ Some (Stop name after)
+unfolding words_line stop_of name_of when_of
+stop_again name false named = rw named refl
+stop_again name true named = rw named refl
+
 stream_again : (scn : ℕ) (filter : Selection) (max : ℕ) → IsLine (Stream scn filter max) → words_line (line_words (Stream scn filter max)) ≡ Some (Stream scn filter max)
 unfolding words_line stream_of
 stream_again scn filter max h =
@@ -302,6 +367,8 @@ line_again text (Commit scn changes) h = rw h.1 (from_words _ _ _ (words_are (Co
 line_again text (Feed count) h = rw h.1 (from_words _ _ _ (words_are (Feed count) h.0) refl (feed_again count h.0))
 line_again text (Poll name max) h = rw h.1 (from_words _ _ _ (words_are (Poll name max) h.0) refl (poll_again name max h.0))
 line_again text (Show name) h = rw h.1 (from_words _ _ _ (words_are (Show name) h.0) refl (show_again name h.0))
+line_again text (Crash name) h = rw h.1 (from_words _ _ _ (words_are (Crash name) h.0) refl (crash_again name h.0))
+line_again text (Stop name after) h = rw h.1 (from_words _ _ _ (words_are (Stop name after) h.0) refl (stop_again name after h.0))
 line_again text (Stream scn filter max) h = rw h.1 (from_words _ _ _ (words_are (Stream scn filter max) h.0) refl (stream_again scn filter max h.0))
 
 -- ---- what a call answered

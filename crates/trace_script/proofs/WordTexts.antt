@@ -10,8 +10,7 @@ use Rattle.hex.specs.Hex.{encode_lower}
 use Rattle.bus_types.specs.declared.change.Key.{Key}
 use Rattle.bus_types.specs.declared.change.Key.TheVariants.{Long}
 use Rattle.bus_types.specs.declared.change.Change.{Change}
-use Rattle.bus_types.specs.Change.{IsKey, IsChange, AreChanges}
-use Rattle.bus_types.specs.Script.{key_text}
+use Rattle.bus_types.specs.Change.{IsKey, IsChange, AreChanges, key_text}
 use Rattle.bus_types.specs.Text.{is_digit}
 use Rattle.trace_script.specs.Words.{words_of, is_lower_hex, is_name_byte, is_name_text}
 use Rattle.trace_script.specs.Spelling.{put_text, change_text, AreBytesOf}

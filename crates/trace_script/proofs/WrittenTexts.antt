@@ -1,15 +1,20 @@
 -- Texts that are appended, and the text of a line.
-use Rattle.std.proofs.Common.{◌≡◌, ℕ, List, [], ◌∷◌, ◌++◌, length, take, drop, map, codes, Some, None, Result, Ok, Err, refl, sym, ap, ◌∙◌, append_assoc, append-nil}
-use Rattle.std.specs.Prelude.{decimal, flat_map}
+use Rattle.std.proofs.Common.{◌≡◌, ℕ, ◌≤◌, true, ◌&&◌, nat_le, List, [], ◌∷◌, ◌++◌, length, take, drop, map, codes, Some, None, Result, Ok, Err, refl, sym, ap, ◌∙◌, append_assoc, append-nil, arith}
+use Rattle.std.specs.Prelude.{decimal, flat_map, IfOk}
 use Rattle.std.specs.List.{join_with_byte}
+use Rattle.std.proofs.lemmas.Bool.{and_parts, leb-true, le-leb, ltb-true, lt-ltb}
+use Rattle.std.proofs.lemmas.Bool.Decides.{nat_tests}
 use Rattle.std.proofs.lemmas.List.{take-append-drop, take_at}
 use Rattle.bus_types.specs.declared.change.Change.{Change}
+use Rattle.bus_types.specs.declared.limits.TheConstants.{MAX_SCN}
+use Rattle.trace_script.specs.declared.fault.LineFault.{LineFault}
 use Rattle.trace_script.specs.declared.line.Line.{Line}
-use Rattle.trace_script.specs.declared.line.Line.TheVariants.{Blank, Relay, Consumer, Commit, Feed, Poll, Show, Stream}
+use Rattle.trace_script.specs.declared.line.Line.TheVariants.{Blank, Relay, Consumer, Commit, Feed, Poll, Show, Crash, Stop, Stream}
 use Rattle.trace_script.specs.Lines.{line_of}
-use Rattle.trace_script.specs.Spelling.{IsLine, IsInRange, Spells, change_text, line_text}
+use Rattle.trace_script.specs.Spelling.{IsLine, IsInRange, IsRoom, IsCount, IsMost, Spells, change_text, line_text, is_room, is_count, is_most, is_in_range}
+use Rattle.trace_script.specs.Reading.{Reads}
 use Rattle.bus_types.specs.Text.{Appends}
-use Rattle.trace_script.proofs.LineTexts.{line_again}
+use Rattle.trace_script.proofs.LineTexts.{line_again, line_taken}
 
 -- ---- texts that are appended
 
@@ -47,6 +52,8 @@ spelled (Commit scn changes) h = (h, refl)
 spelled (Feed count) h = (h, refl)
 spelled (Poll name max) h = (h, refl)
 spelled (Show name) h = (h, refl)
+spelled (Crash name) h = (h, refl)
+spelled (Stop name after) h = (h, refl)
 spelled (Stream scn filter max) h = (h, refl)
 
 pub read_back : (line : Line) → IsLine line → line_of (line_text line) ≡ Some line
@@ -61,4 +68,57 @@ in_range text (Commit scn changes) h = h.0.1
 in_range text (Feed count) h = h.0
 in_range text (Poll name max) h = h.0.1
 in_range text (Show name) h = tt
+in_range text (Crash name) h = tt
+in_range text (Stop name after) h = tt
 in_range text (Stream scn filter max) h = (h.0.0, h.0.2)
+
+pub all_in_range : (result : Result Line LineFault) (text : List ℕ) → Reads (λ line. line) result (line_of text) → IfOk result IsInRange
+all_in_range (Ok line) text h = in_range text line (line_taken text line h)
+all_in_range (Err fault) text h = tt
+
+-- ---- the ranges as tests
+
+count_tested : (count : ℕ) → is_count count ≡ true → IsCount count
+count_tested count h = let p = and_parts (nat_le 1 count) (nat_le count 1000000) h in (leb-true 1 count p.0, leb-true count 1000000 p.1)
+
+most_tested : (max : ℕ) → is_most max ≡ true → IsMost max
+most_tested max h = let p = and_parts (nat_le 1 max) (nat_le max 16777216) h in (leb-true 1 max p.0, leb-true max 16777216 p.1)
+
+room_tested : (bytes windows : ℕ) → is_room bytes windows ≡ true → IsRoom bytes windows
+room_tested bytes windows h = grind (arith, nat_tests)
+
+stream_tested : (scn max : ℕ) → (nat_le scn MAX_SCN && is_most max) ≡ true → (scn ≤ MAX_SCN) × IsMost max
+stream_tested scn max h = let p = and_parts (nat_le scn MAX_SCN) (is_most max) h in (leb-true scn MAX_SCN p.0, most_tested max p.1)
+
+pub range_tested : (line : Line) → is_in_range line ≡ true → IsInRange line
+range_tested Blank h = tt
+range_tested (Relay bytes windows) h = room_tested bytes windows h
+range_tested (Consumer name filter) h = tt
+range_tested (Commit scn changes) h = ltb-true 0 (length changes) h
+range_tested (Feed count) h = count_tested count h
+range_tested (Poll name max) h = most_tested max h
+range_tested (Show name) h = tt
+range_tested (Crash name) h = tt
+range_tested (Stop name after) h = tt
+range_tested (Stream scn filter max) h = stream_tested scn max h
+
+count_test : (count : ℕ) → IsCount count → is_count count ≡ true
+count_test count h = rw (le-leb 1 count h.0, le-leb count 1000000 h.1) refl
+
+most_test : (max : ℕ) → IsMost max → is_most max ≡ true
+most_test max h = rw (le-leb 1 max h.0, le-leb max 16777216 h.1) refl
+
+room_test : (bytes windows : ℕ) → IsRoom bytes windows → is_room bytes windows ≡ true
+room_test bytes windows h = rw (le-leb 1048576 bytes h.0, le-leb bytes 268435456 h.1, le-leb 1 windows h.2, le-leb windows 65536 h.3) refl
+
+pub range_test : (line : Line) → IsInRange line → is_in_range line ≡ true
+range_test Blank h = refl
+range_test (Relay bytes windows) h = room_test bytes windows h
+range_test (Consumer name filter) h = refl
+range_test (Commit scn changes) h = lt-ltb 0 (length changes) h
+range_test (Feed count) h = count_test count h
+range_test (Poll name max) h = most_test max h
+range_test (Show name) h = refl
+range_test (Crash name) h = refl
+range_test (Stop name after) h = refl
+range_test (Stream scn filter max) h = rw (le-leb scn MAX_SCN h.0) (most_test max h.1)

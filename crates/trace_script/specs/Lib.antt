@@ -3,4 +3,4 @@ pub mod Name
 pub mod Lines
 pub mod Spelling
 pub mod Reading
-pub mod Run
+pub mod Input

@@ -1,8 +1,8 @@
 -- The line that a text spells, by its words.
-use Rattle.std.specs.Prelude.{ℕ, Bool, true, if◌then◌else◌, ◌==◌, List, [], ◌∷◌, codes, bytes_eq, Option, Some, None}
+use Rattle.std.specs.Prelude.{ℕ, Bool, true, false, if◌then◌else◌, ◌==◌, List, [], ◌∷◌, codes, bytes_eq, Option, Some, None}
 use Rattle.std.specs.List.{list_any}
 use Rattle.trace_script.specs.declared.line.Line.{Line}
-use Rattle.trace_script.specs.declared.line.Line.TheVariants.{Blank, Relay, Consumer, Commit, Feed, Poll, Show, Stream}
+use Rattle.trace_script.specs.declared.line.Line.TheVariants.{Blank, Relay, Consumer, Commit, Feed, Poll, Show, Crash, Stop, Stream}
 use Rattle.bus_types.specs.declared.limits.TheConstants.{MAX_SCN}
 use Rattle.bus_types.specs.Text.{◌>>=◌, number_of, max_u64}
 use Rattle.trace_script.specs.Words.{words_of, number_in, name_of, selection_of, changes_of}
@@ -62,6 +62,28 @@ show_of (name ∷ []) = do
 show_of [] = None
 show_of (name ∷ more ∷ words) = None
 
+-- `crash NAME`
+unfoldable pub crash_of : List (List ℕ) → Option Line
+crash_of (name ∷ []) = do
+  known ← name_of name
+  Some (Crash known)
+crash_of [] = None
+crash_of (name ∷ more ∷ words) = None
+
+-- `before` or `after`: whether it is after
+unfoldable pub when_of : List ℕ → Option Bool
+when_of word = if bytes_eq word (codes "before") then Some false else if bytes_eq word (codes "after") then Some true else None
+
+-- `stop NAME before` or `stop NAME after`
+unfoldable pub stop_of : List (List ℕ) → Option Line
+stop_of (name ∷ when ∷ []) = do
+  known ← name_of name
+  after ← when_of when
+  Some (Stop known after)
+stop_of [] = None
+stop_of (name ∷ []) = None
+stop_of (name ∷ when ∷ more ∷ words) = None
+
 -- `stream SCN FILTER MAX`
 unfoldable pub stream_of : List (List ℕ) → Option Line
 stream_of (scn ∷ filter ∷ max ∷ []) = do
@@ -84,6 +106,8 @@ words_line (word ∷ words) =
     else if bytes_eq word (codes "feed") then feed_of words
     else if bytes_eq word (codes "poll") then poll_of words
     else if bytes_eq word (codes "show") then show_of words
+    else if bytes_eq word (codes "crash") then crash_of words
+    else if bytes_eq word (codes "stop") then stop_of words
     else if bytes_eq word (codes "relay") then relay_of words
     else None
 

@@ -1,14 +1,13 @@
 -- The texts of a line, said without reading: each line that isn't blank has one text.
-use Rattle.std.specs.Prelude.{◌≡◌, ℕ, ◌<◌, ◌≤◌, ◌^◌, true, false, ◌==◌, List, [], ◌∷◌, ◌++◌, length, map, codes, decimal, Option, Some, None}
+use Rattle.std.specs.Prelude.{◌≡◌, ℕ, ◌<◌, ◌≤◌, ◌^◌, Bool, true, false, ◌==◌, ◌&&◌, nat_lt, nat_le, List, [], ◌∷◌, ◌++◌, length, map, codes, decimal, Option, Some, None}
 use Rattle.std.specs.List.{list_any, AllByRecursion, join_with_byte}
 use Rattle.hex.specs.Hex.{encode_lower}
 use Rattle.bus_types.specs.declared.change.Change.{Change}
-use Rattle.bus_types.specs.Change.{AreChanges}
+use Rattle.bus_types.specs.Change.{AreChanges, key_text}
 use Rattle.bus_types.specs.declared.limits.TheConstants.{MAX_SCN}
-use Rattle.bus_types.specs.Script.{key_text}
 use Rattle.partition_filter.specs.Spelling.{IsFilter, filter_text}
 use Rattle.trace_script.specs.declared.line.Line.{Line}
-use Rattle.trace_script.specs.declared.line.Line.TheVariants.{Blank, Relay, Consumer, Commit, Feed, Poll, Show, Stream}
+use Rattle.trace_script.specs.declared.line.Line.TheVariants.{Blank, Relay, Consumer, Commit, Feed, Poll, Show, Crash, Stop, Stream}
 use Rattle.trace_script.specs.Words.{is_name_text}
 use Rattle.trace_script.specs.Lines.{is_blank}
 
@@ -20,6 +19,11 @@ put_text (Some payload) = codes "=" ++ encode_lower payload
 abbrev pub change_text : Change → List ℕ
 change_text c = decimal c.source ++ codes "/" ++ key_text c.key ++ put_text c.put
 
+-- when a stop comes: after the commit, or before it
+abbrev pub when_text : Bool → List ℕ
+when_text false = codes "before"
+when_text true = codes "after"
+
 -- the words of a line that isn't blank
 abbrev pub line_words : Line → List (List ℕ)
 line_words Blank = []
@@ -29,6 +33,8 @@ line_words (Commit scn changes) = codes "commit" ∷ decimal scn ∷ map change_
 line_words (Feed count) = codes "feed" ∷ decimal count ∷ []
 line_words (Poll name max) = codes "poll" ∷ name ∷ decimal max ∷ []
 line_words (Show name) = codes "show" ∷ name ∷ []
+line_words (Crash name) = codes "crash" ∷ name ∷ []
+line_words (Stop name after) = codes "stop" ∷ name ∷ when_text after ∷ []
 line_words (Stream scn filter max) = codes "stream" ∷ decimal scn ∷ filter_text filter ∷ decimal max ∷ []
 
 -- the words with one space between two of them
@@ -63,6 +69,8 @@ IsLine (Commit scn changes) = (scn < 2 ^ 64) × (0 < length changes) × AreChang
 IsLine (Feed count) = IsCount count
 IsLine (Poll name max) = IsName name × IsMost max
 IsLine (Show name) = IsName name
+IsLine (Crash name) = IsName name
+IsLine (Stop name after) = IsName name
 IsLine (Stream scn filter max) = (scn ≤ MAX_SCN) × IsFilter filter × IsMost max
 
 -- the numbers of a line are in the ranges of the grammar, where these are narrower than those of their types
@@ -74,7 +82,34 @@ IsInRange (Commit scn changes) = 0 < length changes
 IsInRange (Feed count) = IsCount count
 IsInRange (Poll name max) = IsMost max
 IsInRange (Show name) = Unit {0}
+IsInRange (Crash name) = Unit {0}
+IsInRange (Stop name after) = Unit {0}
 IsInRange (Stream scn filter max) = (scn ≤ MAX_SCN) × IsMost max
+
+-- ---- the same ranges as tests
+
+abbrev pub is_room : ℕ → ℕ → Bool
+is_room bytes windows = nat_le 1048576 bytes && nat_le bytes 268435456 && nat_le 1 windows && nat_le windows 65536
+
+abbrev pub is_count : ℕ → Bool
+is_count count = nat_le 1 count && nat_le count 1000000
+
+abbrev pub is_most : ℕ → Bool
+is_most max = nat_le 1 max && nat_le max 16777216
+
+abbrev pub is_in_range : Line → Bool
+is_in_range Blank = true
+is_in_range (Relay bytes windows) = is_room bytes windows
+is_in_range (Consumer name filter) = true
+is_in_range (Commit scn changes) = nat_lt 0 (length changes)
+is_in_range (Feed count) = is_count count
+is_in_range (Poll name max) = is_most max
+is_in_range (Show name) = true
+is_in_range (Crash name) = true
+is_in_range (Stop name after) = true
+is_in_range (Stream scn filter max) = nat_le scn MAX_SCN && is_most max
+
+-- ---- filters and texts
 
 -- the text of its filter, where it has one
 abbrev pub filter_part : Line → List ℕ

@@ -1,6 +1,24 @@
+ghost use Rattle.std.specs.Prelude.{◌≡◌};
+ghost use Rattle.trace_script.specs.Spelling.{is_room, is_count, is_most, is_in_range};
+
 use crate::name::Name;
-use bus_types::Changes;
+use bus_types::{Changes, MAX_SCN};
 use partition_filter::Filter;
+
+/// The least bytes of windows that a relay is told to hold.
+pub(crate) const MIN_ROOM: u64 = 1_048_576;
+
+/// The most bytes of windows that a relay is told to hold.
+pub(crate) const MAX_ROOM: u64 = 268_435_456;
+
+/// The most windows that a relay is told to hold.
+pub(crate) const MAX_WINDOWS: u64 = 65_536;
+
+/// The most commits that one line feeds.
+pub(crate) const MAX_FEED: u64 = 1_000_000;
+
+/// The most bytes that a line may ask a reply to have.
+pub(crate) const MAX_REPLY: u64 = 16_777_216;
 
 /// A line of a script.
 #[derive(Debug, Drop)]
@@ -39,6 +57,16 @@ pub enum Line {
     },
     /// `show NAME`: prints a consumer's SCN and rows.
     Show(Name),
+    /// `crash NAME`: the client of a consumer is opened again from its keeper.
+    Crash(Name),
+    /// `stop NAME before` or `stop NAME after`: the next commit of a consumer fails. A second such line takes the place
+    /// of the first.
+    Stop {
+        /// The consumer.
+        name: Name,
+        /// Whether the state is then the one after the commit; else it is the one before it.
+        after: bool,
+    },
     /// `stream SCN FILTER MAX`: asks the relay for the next windows, without a consumer.
     Stream {
         /// The SCN behind which they are, 0 to 9,223,372,036,854,775,807.
@@ -48,4 +76,39 @@ pub enum Line {
         /// The most bytes that the reply may have, 1 to 16,777,216.
         max: u32,
     },
+}
+
+impl Line {
+    /// Whether its numbers are in the ranges of the grammar, where these are narrower than those of their types, and a
+    /// commit has a change. Each line that `read_line` gives is in range.
+    pub fn is_in_range(&self) -> bool
+        ensures { result ≡ is_in_range self.now }
+    {
+        match self {
+            Line::Relay { bytes, windows } => is_room(*bytes, *windows),
+            Line::Commit { changes, .. } => !changes.items().is_empty(),
+            Line::Feed(count) => is_count(*count),
+            Line::Poll { max, .. } => is_most(*max),
+            Line::Stream { scn, max, .. } => *scn <= MAX_SCN && is_most(*max),
+            _ => true,
+        }
+    }
+}
+
+fn is_room(bytes: u64, windows: u32) -> bool
+    ensures { result ≡ is_room bytes windows }
+{
+    MIN_ROOM <= bytes && bytes <= MAX_ROOM && 1 <= windows && u64::from(windows) <= MAX_WINDOWS
+}
+
+fn is_count(count: u64) -> bool
+    ensures { result ≡ is_count count }
+{
+    1 <= count && count <= MAX_FEED
+}
+
+fn is_most(max: u32) -> bool
+    ensures { result ≡ is_most max }
+{
+    1 <= max && u64::from(max) <= MAX_REPLY
 }

@@ -2,32 +2,17 @@ ghost use Rattle.std.specs.Prelude.{◌≡◌, ◌==◌, ◌≤◌, ◌∷◌, f
 ghost use Rattle.std.specs.List.{list_any};
 ghost use Rattle.trace_script.specs.Reading.{Reads};
 ghost use Rattle.trace_script.specs.declared.line.Line.{Line};
-ghost use Rattle.trace_script.specs.Spelling.{Spells};
+ghost use Rattle.trace_script.specs.Spelling.{IsInRange, Spells};
 ghost use Rattle.trace_script.specs.Words.{words_of, number_in, name_of, selection_of};
-ghost use Rattle.trace_script.specs.Lines.{is_blank, relay_of, consumer_of, commit_of, feed_of, poll_of, show_of, stream_of, words_line, line_of};
+ghost use Rattle.trace_script.specs.Lines.{is_blank, relay_of, consumer_of, commit_of, feed_of, poll_of, show_of, crash_of, when_of, stop_of, stream_of, words_line, line_of};
 
 use crate::change::changes;
 use crate::fault::LineFault;
-use crate::line::Line;
+use crate::line::{Line, MAX_FEED, MAX_REPLY, MAX_ROOM, MAX_WINDOWS, MIN_ROOM};
 use crate::name::Name;
 use bus_types::{Changes, MAX_SCN, read_number};
 use partition_filter::{Filter, FilterFault};
 use std::alloc::{AllocError, Global};
-
-/// The least bytes of windows that a relay is told to hold.
-const MIN_ROOM: u64 = 1_048_576;
-
-/// The most bytes of windows that a relay is told to hold.
-const MAX_ROOM: u64 = 268_435_456;
-
-/// The most windows that a relay is told to hold.
-const MAX_WINDOWS: u64 = 65_536;
-
-/// The most commits that one line feeds.
-const MAX_FEED: u64 = 1_000_000;
-
-/// The most bytes that a line may ask a reply to have.
-const MAX_REPLY: u64 = 16_777_216;
 
 /// The line that a text spells, without its LF. `BadLine` comes exactly where the text is no line.
 pub fn read_line(alloc: Global, text: &[u8]) -> Result<Line, LineFault>
@@ -35,6 +20,7 @@ pub fn read_line(alloc: Global, text: &[u8]) -> Result<Line, LineFault>
 
     // What is read is spelled so, and what is bad is spelled by no line.
     ensures found { IfOk result (λ line. Spells text.now line) }
+    ensures in_range { IfOk result IsInRange }
     ensures bad { IsErrOf result LineFault.BadLine → (line : Line) → Spells text.now line → ⊥ }
 {
     text_line(alloc, text)
@@ -121,6 +107,10 @@ fn plain_line(word: &[u8], words: &[&[u8]]) -> Option<Line>
         poll(words)
     } else if word == b"show".as_slice() {
         show(words)
+    } else if word == b"crash".as_slice() {
+        crash(words)
+    } else if word == b"stop".as_slice() {
+        stop(words)
     } else if word == b"relay".as_slice() {
         relay(words)
     } else {
@@ -206,6 +196,44 @@ fn show(words: &[&[u8]]) -> Option<Line>
         return None;
     };
     Some(Line::Show(known_name(name)?))
+}
+
+/// `crash NAME`
+#[tactic(auto, unfolding(crate::specs::Lines::crash_of))]
+fn crash(words: &[&[u8]]) -> Option<Line>
+    ensures { result ≡ crash_of (map (λ word. word.now) words.now) }
+{
+    let [name] = words else {
+        return None;
+    };
+    Some(Line::Crash(known_name(name)?))
+}
+
+/// `stop NAME before` or `stop NAME after`
+#[tactic(auto, unfolding(crate::specs::Lines::stop_of))]
+fn stop(words: &[&[u8]]) -> Option<Line>
+    ensures { result ≡ stop_of (map (λ word. word.now) words.now) }
+{
+    let [name, when] = words else {
+        return None;
+    };
+    let name = known_name(name)?;
+    let after = is_after(when)?;
+    Some(Line::Stop { name, after })
+}
+
+/// Whether the word says that a stop comes after the commit.
+#[tactic(auto, unfolding(crate::specs::Lines::when_of))]
+fn is_after(word: &[u8]) -> Option<bool>
+    ensures { result ≡ when_of word.now }
+{
+    if word == b"before".as_slice() {
+        Some(false)
+    } else if word == b"after".as_slice() {
+        Some(true)
+    } else {
+        None
+    }
 }
 
 /// `stream SCN FILTER MAX`

@@ -1,11 +1,10 @@
 ghost use Rattle.std.specs.Prelude.{◌≡◌, ◌<◌, ◌≤◌, ◌∷◌, ◌++◌, length, codes, decimal, flat_map, Some, IfOk, OnOk, OnErr, string_bytes};
 ghost use Rattle.std.specs.List.{AllByRecursion};
 ghost use Rattle.hex.specs.Hex.{encode_lower};
-ghost use Rattle.bus_types.specs.Change.{IsChange, AreChanges};
-ghost use Rattle.bus_types.specs.Script.{key_text};
+ghost use Rattle.bus_types.specs.Change.{IsChange, AreChanges, key_text};
 ghost use Rattle.bus_types.specs.declared.limits.TheConstants.{MAX_PAYLOAD};
 ghost use Rattle.trace_script.specs.Lines.{line_of};
-ghost use Rattle.trace_script.specs.Spelling.{AreBytesOf, change_text, filter_part, line_text, IsFiltered, IsLine, IsInRange, Spells};
+ghost use Rattle.trace_script.specs.Spelling.{AreBytesOf, change_text, when_text, filter_part, line_text, IsFiltered, IsLine, IsInRange, Spells};
 ghost use Rattle.bus_types.specs.Text.{Appends};
 ghost use Rattle.partition_filter.specs.Spelling.{IsFilter, filter_text};
 
@@ -77,6 +76,8 @@ fn room_for(line: &Line) -> usize
         Line::Feed(_) => 12,
         Line::Poll { name, .. } => 14 + name.bytes().len(),
         Line::Show(name) => 5 + name.bytes().len(),
+        Line::Crash(name) => 6 + name.bytes().len(),
+        Line::Stop { name, .. } => 12 + name.bytes().len(),
         Line::Stream { .. } => 36,
     }
 }
@@ -124,6 +125,8 @@ fn append_line(line: &Line, filter: &[u8], out: &mut Vec<u8>) -> Result<(), NoMe
         Line::Feed(count) => append_feed(*count, out),
         Line::Poll { name, max } => append_poll(name, *max, out),
         Line::Show(name) => append_show(name, out),
+        Line::Crash(name) => append_crash(name, out),
+        Line::Stop { name, after } => append_stop(name, *after, out),
         Line::Stream { scn, max, .. } => append_stream(*scn, filter, *max, out),
     }
 }
@@ -173,6 +176,37 @@ fn append_show(name: &Name, out: &mut Vec<u8>) -> Result<(), NoMemory>
 {
     out.extend_from_slice(b"show ")?;
     out.extend_from_slice(name.bytes())?;
+    Ok(())
+}
+
+/// `crash NAME`
+fn append_crash(name: &Name, out: &mut Vec<u8>) -> Result<(), NoMemory>
+    ensures { Appends result (codes "crash " ++ name.now) out.old.items out.new.items }
+{
+    out.extend_from_slice(b"crash ")?;
+    out.extend_from_slice(name.bytes())?;
+    Ok(())
+}
+
+/// `stop NAME before` or `stop NAME after`
+fn append_stop(name: &Name, after: bool, out: &mut Vec<u8>) -> Result<(), NoMemory>
+    ensures { Appends result (codes "stop " ++ name.now ++ codes " " ++ when_text after) out.old.items out.new.items }
+{
+    out.extend_from_slice(b"stop ")?;
+    out.extend_from_slice(name.bytes())?;
+    out.extend_from_slice(b" ")?;
+    append_when(after, out)
+}
+
+/// `before` or `after`
+fn append_when(after: bool, out: &mut Vec<u8>) -> Result<(), NoMemory>
+    ensures { Appends result (when_text after) out.old.items out.new.items }
+{
+    if after {
+        out.extend_from_slice(b"after")?;
+        return Ok(());
+    }
+    out.extend_from_slice(b"before")?;
     Ok(())
 }
 

@@ -1,7 +1,7 @@
 use Rattle.std.proofs.Common.{◌∷◌, ◌++◌, codes}
 use Rattle.std.specs.Prelude.{decimal}
 use Rattle.hex.specs.Hex.{encode_lower}
-use Rattle.bus_types.specs.Script.{key_text}
+use Rattle.bus_types.specs.Change.{key_text}
 use Rattle.trace_script.proofs.WrittenTexts.{Appends-after}
 use Rattle.trace_script.proofs.writing.append_change.Goals as goal
 

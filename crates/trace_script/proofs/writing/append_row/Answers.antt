@@ -1,6 +1,6 @@
 use Rattle.std.proofs.Common.{◌≡◌, ◌∷◌, ◌++◌, codes, append_assoc}
 use Rattle.std.specs.Prelude.{decimal}
-use Rattle.bus_types.specs.Script.{key_text}
+use Rattle.bus_types.specs.Change.{key_text}
 use Rattle.trace_script.proofs.WrittenTexts.{Appends-after}
 use Rattle.trace_script.proofs.writing.append_row.Goals as goal
 
