@@ -167,7 +167,7 @@ impl Bus {
 
     // Keeps, where a line was taken, that a line that isn't blank has come.
     fn begin(&mut self, done: Result<Vec<u8>, StepFault>) -> Result<Vec<u8>, StepFault>
-        ensures { (first : Parts) (defined : Step) → Acts done defined first self.old → Does result (begin defined) first self.new }
+        ensures does { (first : Parts) (defined : Step) → Acts done defined first self.old → Does result (begin defined) first self.new }
         ensures members { self.new.members ≡ self.old.members }
     {
         match done {

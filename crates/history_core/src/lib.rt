@@ -21,3 +21,6 @@ pub use rows::{
     worked_scripts_of_stops, worked_scripts_of_streams,
 };
 pub use worked::worked_steps;
+
+#[cfg(test)]
+mod tests;
