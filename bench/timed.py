@@ -1,8 +1,8 @@
 #!/usr/bin/env python3
 """Times the built program on scripts of several sizes: seconds, microseconds a commit and lines a second, the best of
-five runs. Each script is what `GENERATOR COUNT` prints.
+five runs. Each script is what `GENERATOR COUNT` prints, or `GENERATOR COUNT ROWS`.
 
-Usage: timed.py GENERATOR COUNT ..
+Usage: timed.py GENERATOR COUNT[/ROWS] ..
 """
 import pathlib
 import subprocess
@@ -23,15 +23,17 @@ def seconds_of(script):
 
 
 def main():
-    generator, *counts = sys.argv[1:]
-    print(f"{'commits':>8} {'lines':>8} {'seconds':>9} {'us/commit':>10} {'lines/s':>10}")
-    for count in counts:
+    generator, *sizes = sys.argv[1:]
+    print(f"{'commits':>8} {'rows':>6} {'lines':>8} {'seconds':>9} {'us/commit':>10} {'lines/s':>10}")
+    for size in sizes:
+        count, _, rows = size.partition("/")
         with tempfile.TemporaryFile() as script:
-            subprocess.run([sys.executable, HERE / generator, count], stdout=script, check=True)
+            words = [count, rows] if rows else [count]
+            subprocess.run([sys.executable, HERE / generator, *words], stdout=script, check=True)
             script.seek(0)
             lines = sum(1 for _ in script)
             best = min(seconds_of(script) for _ in range(RUNS))
-        print(f"{count:>8} {lines:>8} {best:>9.4f} {best / int(count) * 1e6:>10.2f} {lines / best:>10.0f}")
+        print(f"{count:>8} {rows:>6} {lines:>8} {best:>9.4f} {best / int(count) * 1e6:>10.2f} {lines / best:>10.0f}")
 
 
 main()
