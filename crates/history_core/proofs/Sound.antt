@@ -18,9 +18,11 @@ use Rattle.bus_stores.specs.declared.keeper.Stop.{Stop}
 use Rattle.client_switch.specs.Moves.{question}
 use Rattle.client_switch.specs.Moves.Wish.{NoWish}
 use Rattle.client_switch.proofs.Growing.{good_stays}
+use Rattle.trace_script.specs.declared.line.Line.{Line}
+use Rattle.trace_script.specs.declared.line.Line.TheVariants.{Show}
 use Rattle.history_core.specs.Script.{Follower, State, new_boot, floor, relay_line, stream_line, shown}
 use Rattle.history_core.specs.Steps.{Step, place_of, at_name, with_consumer, most_consumers, most_commits, new_follower, next_window, fed, replied, after_reply, asked, looked_at, relay_step, consumer_step, commit_step, feed_step, stream_step, poll_step, crash_step, stop_step, show_step}
-use Rattle.history_core.specs.Bus.{MemberState, Parts, follower, followers, state_of, IsMember, IsSound, WasCalled}
+use Rattle.history_core.specs.Bus.{MemberState, Parts, follower, followers, state_of, IsMember, IsSound, WasCalled, Calls}
 use Rattle.history_core.specs.Acting.{IsWorking, Becomes, Polls, Shows, Publishes}
 
 -- ---- lists
@@ -246,3 +248,8 @@ called_at ms name i m n f called j old new place at set =
     let before : m ≡ old = cc (sym f.at ∙ ap (slice_get ms) same ∙ at) in
     let after : n ≡ new = cc (sym (set_there ms i m n f.at) ∙ ap (slice_get (slice_set ms i n)) same ∙ set) in
     subst (λ (x : MemberState). WasCalled x new) before (subst (λ (y : MemberState). WasCalled m y) after called)
+
+-- what a line calls shows in the consumers alone
+pub calls_same : (line : Line) (first b d : Parts) → d.members ≡ b.members → Calls line first b → Calls line first d
+calls_same (Show name) first b d same h = λ i m n place at new. h i m n place at (ap (λ (ms : List MemberState). slice_get ms i) (sym same) ∙ new)
+calls_same line first b d same h = tt
