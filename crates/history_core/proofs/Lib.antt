@@ -1,2 +1,4 @@
 pub mod Members
 pub mod Feeding
+pub mod Replying
+pub mod Polling
