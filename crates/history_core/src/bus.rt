@@ -3,6 +3,7 @@ ghost use Rattle.bus_types.specs.Causes.{Rose};
 ghost use Rattle.bus_types.specs.Timeline.{IsTimelineFrom};
 ghost use Rattle.partition_filter.specs.Selection.{test_of};
 ghost use Rattle.bus_stores.specs.Memory.{stop_at};
+ghost use Rattle.trace_script.specs.declared.line.Line.{Line};
 ghost use Rattle.trace_script.specs.Spelling.{is_in_range};
 ghost use Rattle.history_core.specs.Script.{start};
 ghost use Rattle.history_core.specs.Steps.{Step, begin, place_of, relay_step, consumer_step, commit_step, feed_step, stream_step, poll_step, crash_step, stop_step, show_step};
@@ -168,7 +169,7 @@ impl Bus {
     // Keeps, where a line was taken, that a line that isn't blank has come.
     fn begin(&mut self, done: Result<Vec<u8>, StepFault>) -> Result<Vec<u8>, StepFault>
         ensures does { (first : Parts) (defined : Step) → Acts done defined first self.old → Does result (begin defined) first self.new }
-        ensures members { self.new.members ≡ self.old.members }
+        ensures calls { (line : Line) (first : Parts) → OnOk done (Calls line first self.old) → OnOk result (Calls line first self.new) }
     {
         match done {
             Ok(text) => {
