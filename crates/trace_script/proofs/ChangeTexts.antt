@@ -11,8 +11,7 @@ use Rattle.bus_types.specs.declared.change.Key.{Key}
 use Rattle.bus_types.specs.declared.change.Key.TheVariants.{Long}
 use Rattle.bus_types.specs.declared.change.Change.{Change}
 use Rattle.bus_types.specs.declared.limits.TheConstants.{MAX_PAYLOAD}
-use Rattle.bus_types.specs.Change.{IsKey, IsChange, AreChanges, payload_size}
-use Rattle.bus_types.specs.Script.{key_text}
+use Rattle.bus_types.specs.Change.{IsKey, IsChange, AreChanges, payload_size, key_text}
 use Rattle.bus_types.specs.Text.{number_of, is_digit, max_u64, cut_at}
 use Rattle.trace_script.specs.Words.{key_of, payload_of, put_or_delete, change_of, changes_of}
 use Rattle.trace_script.specs.Spelling.{put_text, change_text, AreBytesOf}

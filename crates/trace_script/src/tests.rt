@@ -21,6 +21,10 @@ fn says(line: &Result<Line, LineFault>, kind: &str, text: &[u8], number: u64) ->
             kind == "poll" && name.bytes() == text && u64::from(*max) == number
         }
         Ok(Line::Show(name)) => kind == "show" && name.bytes() == text,
+        Ok(Line::Crash(name)) => kind == "crash" && name.bytes() == text,
+        Ok(Line::Stop { name, after }) => {
+            kind == "stop" && name.bytes() == text && u64::from(*after) == number
+        }
         Ok(Line::Stream { scn, max, .. }) => {
             kind == "stream" && *scn == number && (*max == 1 || *max == 16_777_216)
         }
@@ -71,6 +75,9 @@ fn each_kind_of_line_is_read(rt: HostRuntime) {
         (b"poll abcdefghijklmnop 1", "poll", b"abcdefghijklmnop", 1),
         (b"poll 0_z 16777216", "poll", b"0_z", 16_777_216),
         (b"show all", "show", b"all", 0),
+        (b"crash all", "crash", b"all", 0),
+        (b"stop c1 before", "stop", b"c1", 0),
+        (b"stop c1 after", "stop", b"c1", 1),
         (b"stream 0 all 1", "stream", b"", 0),
         (
             b"stream 9223372036854775807 0%2:1;7* 16777216",
@@ -117,6 +124,11 @@ fn other_texts_are_bad(rt: HostRuntime) {
         b"show 12345678901234567",
         b"show C",
         b"show c-d",
+        b"crash",
+        b"crash c d",
+        b"stop c",
+        b"stop c Before",
+        b"stop c before x",
         b"look c",
         b"Show c",
         b"commit",
@@ -253,6 +265,11 @@ fn a_line_is_written_behind_what_was_there(rt: HostRuntime) -> Result<(), Fail> 
         (written(alloc, &Line::Feed(1_000_000)), b"> feed 1000000"),
         (written(alloc, &Line::Poll { name, max: 1 }), b"> poll c1 1"),
         (written(alloc, &Line::Show(name)), b"> show c1"),
+        (written(alloc, &Line::Crash(name)), b"> crash c1"),
+        (
+            written(alloc, &Line::Stop { name, after: true }),
+            b"> stop c1 after",
+        ),
         (
             written(
                 alloc,
@@ -289,6 +306,9 @@ fn each_kind_of_line_is_written_as_it_was_read(rt: HostRuntime) -> Result<(), Fa
         b"feed 1",
         b"poll 0_z 16777216",
         b"show all",
+        b"crash c1",
+        b"stop c1 before",
+        b"stop c1 after",
         b"stream 9223372036854775807 all 16777216",
         b"stream 0 65535* 1",
     ] {
