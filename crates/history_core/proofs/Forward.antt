@@ -25,7 +25,7 @@ use Rattle.checkpoint.specs.Mark.{floor_of}
 use Rattle.client_switch.specs.Moves.{Wish, Reply, Turn, question, turn, replayed}
 use Rattle.client_switch.specs.Moves.Wish.{NoWish, StartWish, FreshWish}
 use Rattle.client_switch.specs.Moves.Question.{Start}
-use Rattle.client_switch.specs.Moves.Reply.{Windows, Rows, Changes, Only}
+use Rattle.client_switch.specs.Moves.Reply.{Rows, Changes, Only}
 use Rattle.client_switch.specs.True.{Boot, reply_of, items_within, frame_size, chunk_of, replay_of, puts_of, last_changes, changes_after, boot_reply}
 use Rattle.trace_script.specs.declared.line.Line.{Line}
 use Rattle.trace_script.specs.declared.line.Line.TheVariants.{Blank, Relay, Consumer, Commit, Feed, Poll, Crash, Stop as StopLine, Show, Stream}
@@ -33,8 +33,8 @@ use Rattle.trace_script.specs.Lines.{line_of}
 use Rattle.trace_script.specs.Spelling.{is_in_range}
 use Rattle.trace_script.specs.Input.{RawLine, is_too_long}
 use Rattle.history_core.specs.Script.{Follower, State, floor, reply_line, shown}
-use Rattle.history_core.specs.Steps.{Step, begin, place_of, at_name, with_consumer, replied, committed, turned, marked, asked, looked_at, relay_step, consumer_step, commit_step, feed_step, poll_step, crash_step, stop_step, show_step, stream_step}
-use Rattle.history_core.specs.Run.{act, line_step, text_step, Ending, TooLongAt, Played, ended, play_on, played, IsForward, AreForward, GoOn}
+use Rattle.history_core.specs.Steps.{Step, begin, place_of, at_name, with_consumer, replied, committed, turned, asked, looked_at, relay_step, consumer_step, commit_step, feed_step, poll_step, crash_step, stop_step, show_step, stream_step}
+use Rattle.history_core.specs.Run.{act, line_step, text_step, TooLongAt, Played, ended, play_on, played, IsForward, AreForward, GoOn}
 
 -- what holds of both values holds of the choice
 either : {A : Type 0} (P : A → Type 0) (b : Bool) (x y : A) → P x → P y → P (cond b x y)
@@ -278,6 +278,7 @@ leads_named s name step h f = found (place_of name s.consumers)
     done i (Some c) at =
         let next = f c (forward_at s.consumers i c at h) in
         leads_some s (with_consumer s i (step c).0) (step c).1 (go_on_set s.consumers i c (step c).0 at next.0 next.1 next.2.0, forward_set s.consumers i (step c).0 h next.2.1)
+
     found : (o : Option ℕ) → Leads s (option_and_then (λ i. option_map (λ (c : Follower). (with_consumer s i (step c).0, (step c).1)) (slice_get s.consumers i)) o)
     found None = leads_none s
     found (Some i) = done i (slice_get s.consumers i) refl

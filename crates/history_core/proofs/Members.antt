@@ -1,23 +1,18 @@
 -- Consumers of a bus: new ones, and what reading, crashes and stops leave of them.
-use Rattle.std.proofs.Common.{◌≡◌, ℕ, ◌≤◌, false, List, [], Option, Some, None, refl, sym, ap, subst, ◌∙◌, arith}
-use Rattle.bus_types.specs.Causes.{Rose}
+use Rattle.std.proofs.Common.{◌≡◌, ℕ, false, List, [], Option, Some, None, sym, ap, subst, ◌∙◌, arith}
 use Rattle.bus_types.specs.Window.{Span}
-use Rattle.bus_types.specs.Table.{RowList}
 use Rattle.partition_filter.specs.Selection.{Selection, test_of}
-use Rattle.bus_stores.specs.declared.keeper.Stop.{Stop}
-use Rattle.bus_stores.specs.Memory.{MemoryStore, new_store, last_mark, next_count}
+use Rattle.bus_stores.specs.Memory.{MemoryStore, new_store, last_mark}
 use Rattle.checkpoint.specs.declared.mark.Mark.{Mark}
 use Rattle.checkpoint.specs.declared.mark.Mark.TheVariants.{Online, Delta, Snapshot, Scanned, Catchup}
 use Rattle.checkpoint.proofs.ReadBack.{one_mark}
 use Rattle.client_switch.specs.Moves.{Wish}
 use Rattle.client_switch.specs.Moves.Wish.{NoWish}
-use Rattle.client_switch.specs.Good.{Good}
 use Rattle.client_switch.specs.Client.{Held, IsStored}
 use Rattle.client_switch.proofs.Growing.{good_new}
-use Rattle.history_core.specs.Script.{Follower, rows_text, shown}
-use Rattle.history_core.specs.Steps.{new_follower, looked_at}
-use Rattle.history_core.specs.Bus.{MemberState, follower, IsReached, IsMember, OnOnline}
-use Rattle.history_core.specs.Acting.{WasRead, Becomes, Shows}
+use Rattle.history_core.specs.Steps.{new_follower}
+use Rattle.history_core.specs.Bus.{MemberState, follower, IsReached, IsMember}
+use Rattle.history_core.specs.Acting.{WasRead, Becomes}
 
 -- a stored text is one mark
 pub one_stored : (text : Option (List ℕ)) (m n : Mark) → IsStored text m → IsStored text n → m ≡ n

@@ -20,7 +20,7 @@ use Rattle.event_codec.proofs.Windows.{window_length, one_window}
 use Rattle.bus_wire.specs.declared.ask.Ask.{Ask}
 use Rattle.bus_wire.specs.declared.ask.Ask.TheVariants.{Stream as StreamAsk, Start as StartAsk}
 use Rattle.bus_wire.specs.Lawful.{IsLawful, after_floor}
-use Rattle.bus_wire.specs.Served.{served_bytes, served_shape, Serves}
+use Rattle.bus_wire.specs.Served.{served_shape, Serves}
 use Rattle.bus_wire.proofs.Uniqueness.{one_shape}
 use Rattle.bus_wire.proofs.Replies.{relay_serves, relay_is_lawful}
 use Rattle.checkpoint.specs.declared.mark.Mark.{Mark}
@@ -73,13 +73,7 @@ windows_once (w ∷ ws) (v ∷ vs) a b same =
 
 -- ---- what a relay serves
 
-same_bytes : (served : Served) → reply_bytes served ≡ served_bytes served
-same_bytes (NoWindow n) = refl
-same_bytes (NothingNew n) = refl
-same_bytes (TooLarge n) = refl
-same_bytes (SomeWindows ws) = refl
-
-served_is : (scn most : ℕ) (filter : Selection) (served : Served) (bytes : List ℕ) (reply : Reply) → Serves scn filter most served → bytes ≡ served_bytes served → IsReply (served_shape served) bytes reply → reply ≡ reply_of served
+served_is : (scn most : ℕ) (filter : Selection) (served : Served) (bytes : List ℕ) (reply : Reply) → Serves scn filter most served → bytes ≡ reply_bytes served → IsReply (served_shape served) bytes reply → reply ≡ reply_of served
 served_is scn most filter (NoWindow n) bytes reply serves spelled is = is
 served_is scn most filter (NothingNew n) bytes reply serves spelled is = is
 served_is scn most filter (TooLarge n) bytes reply serves spelled is = is
@@ -118,13 +112,13 @@ module _ (ws : List Span) (r : Relay) (filter : Selection) (stands : StandsFor w
   stream_lawful : (scn most : ℕ) (bytes : List ℕ) → bytes ≡ sent r (StreamAsk scn filter most) → IsLawful (StreamAsk scn filter most) bytes (served_shape (answer_of r scn (test_of filter) most))
   stream_lawful scn most bytes is =
       let served : Served = answer_of r scn (test_of filter) most in
-      subst (λ (b : List ℕ). IsLawful (StreamAsk scn filter most) b (served_shape served)) (sym (is ∙ same_bytes served)) (relay_is_lawful ws r scn filter most stands)
+      subst (λ (b : List ℕ). IsLawful (StreamAsk scn filter most) b (served_shape served)) (sym is) (relay_is_lawful ws r scn filter most stands)
 
   stream_only : (scn most : ℕ) (bytes : List ℕ) (shape : Shape) (reply : Reply) → bytes ≡ sent r (StreamAsk scn filter most) → IsLawful (StreamAsk scn filter most) bytes shape → IsReply shape bytes reply → reply ≡ defined (Stream scn most)
   stream_only scn most bytes shape reply is lawful read =
       let served : Served = answer_of r scn (test_of filter) most in
       let same : shape ≡ served_shape served = one_shape (StreamAsk scn filter most) bytes shape (served_shape served) lawful (stream_lawful scn most bytes is) in
-      served_is scn most filter served bytes reply (relay_serves ws r scn filter most stands) (is ∙ same_bytes served) (subst (λ (s : Shape). IsReply s bytes reply) same read)
+      served_is scn most filter served bytes reply (relay_serves ws r scn filter most stands) is (subst (λ (s : Shape). IsReply s bytes reply) same read)
       ∙ ap reply_of (stands_answers ws r scn (test_of filter) most stands)
 
   start_lawful : (since : ℕ) (bytes : List ℕ) → bytes ≡ answer_bytes (Behind 0) → IsLawful (StartAsk since false) bytes (shapes.Only (Behind 0))

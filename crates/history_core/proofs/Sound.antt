@@ -202,8 +202,7 @@ changed_at : (b : Parts) (i : ℕ) (name : List ℕ) (act : ℕ → Follower →
 changed_at b i name act m n next text h f is becomes =
     let place = f.place in
     let found : slice_get (followers b.members) i ≡ Some (follower m) = slice_get-map follower b.members i ∙ ap (option_map follower) f.at in
-    let set : slice_set (followers b.members) i next ≡ followers (slice_set b.members i n) = ap (slice_set (followers b.members) i) (sym becomes.follows) ∙ sym (map-set follower b.members i n) in
-    (
+    let set : slice_set (followers b.members) i next ≡ followers (slice_set b.members i n) = ap (slice_set (followers b.members) i) (sym becomes.follows) ∙ sym (map-set follower b.members i n) in (
       rw (← place, found) (ap (λ (r : State × List ℕ). Some r) is ∙ (λ j. Some (record (state_of b) { consumers = set j }, text))),
       works_set b i n h becomes.member,
     )

@@ -199,12 +199,7 @@ impl Bus {
 
     // A new consumer.
     #[tactic(auto, unfolding(crate::specs::Steps::consumer_step))]
-    fn declare(
-        &mut self,
-        alloc: Global,
-        name: Name,
-        filter: &Filter,
-    ) -> Result<Vec<u8>, StepFault>
+    fn declare(&mut self, alloc: Global, name: Name, filter: &Filter) -> Result<Vec<u8>, StepFault>
         requires { IsSound self.old }
         ensures { Acts result (consumer_step (state_of self.old) name filter.now) self.old self.new }
     {
@@ -222,12 +217,7 @@ impl Bus {
 
     // The source commits a window.
     #[tactic(auto, unfolding(crate::specs::Steps::commit_step))]
-    fn commit(
-        &mut self,
-        alloc: Global,
-        scn: u64,
-        changes: &Changes,
-    ) -> Result<Vec<u8>, StepFault>
+    fn commit(&mut self, alloc: Global, scn: u64, changes: &Changes) -> Result<Vec<u8>, StepFault>
         requires { IsSound self.old }
         ensures { Acts result (commit_step (state_of self.old) scn changes.now) self.old self.new }
     {

@@ -96,12 +96,7 @@ pub(crate) fn mode(alloc: Global, name: &[u8], mode: &[u8]) -> Result<Vec<u8>, N
 }
 
 /// What is shown of a consumer that is online: its SCN and its rows.
-pub(crate) fn show(
-    alloc: Global,
-    name: &[u8],
-    scn: u64,
-    rows: &[Row],
-) -> Result<Vec<u8>, NoMemory>
+pub(crate) fn show(alloc: Global, name: &[u8], scn: u64, rows: &[Row]) -> Result<Vec<u8>, NoMemory>
     ensures { IfOk result (λ text. text.items ≡ rows_text name.now scn (map pair_of rows.now)) }
 {
     let mut text = heading(alloc, name, scn, rows.len())?;

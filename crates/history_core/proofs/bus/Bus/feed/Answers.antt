@@ -1,4 +1,4 @@
-use Rattle.std.proofs.Common.{◌≡◌, ap, sym, subst, ◌∙◌, take}
+use Rattle.std.proofs.Common.{ap, sym, subst, ◌∙◌, take}
 use Rattle.bus_types.specs.Timeline.{end_of, windows_between}
 use Rattle.history_core.specs.Script.{relay_line}
 use Rattle.history_core.specs.Bus.{Parts, state_of, IsSound}
