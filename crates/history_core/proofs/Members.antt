@@ -12,7 +12,7 @@ use Rattle.client_switch.specs.Client.{Held, IsStored}
 use Rattle.client_switch.proofs.Growing.{good_new}
 use Rattle.history_core.specs.Steps.{new_follower}
 use Rattle.history_core.specs.Bus.{MemberState, follower, IsReached, IsMember}
-use Rattle.history_core.specs.Acting.{WasRead, Becomes}
+use Rattle.history_core.specs.Acting.{WasRead, IsReopened, Becomes}
 
 -- a stored text is one mark
 pub one_stored : (text : Option (List ℕ)) (m n : Mark) → IsStored text m → IsStored text n → m ≡ n
@@ -20,7 +20,7 @@ one_stored None m n p q = p ∙ sym q
 one_stored (Some t) m n p q = one_mark m n p.0 q.0 (sym p.1 ∙ q.1)
 
 -- a mark that is reached is so without a wish
-reached_again : (mark : Mark) (wish : Wish) → IsReached mark wish → IsReached mark NoWish
+pub reached_again : (mark : Mark) (wish : Wish) → IsReached mark wish → IsReached mark NoWish
 reached_again (Online scn) wish h = tt
 reached_again (Delta since target cursor) wish h = h
 reached_again (Snapshot since begins top cursor) wish h = h
@@ -49,21 +49,22 @@ new_member ws name filter client before after fresh f w runs stored read =
     }
 
 -- a consumer whose client was opened again
-pub opened_again : (ws : List Span) (m : MemberState) (client : Held) (after : MemoryStore)
-    → client.filter ≡ m.client.filter → client.wish ≡ NoWish → client.halted ≡ false → IsStored (last_mark m.store.marks) client.mark → WasRead m.store after
-    → IsMember ws m → Becomes ws (record (follower m) { wish = NoWish }) (record m { client = client; store = after })
-opened_again ws m client after f w runs stored read h =
-    let mark : client.mark ≡ m.client.mark = one_stored (last_mark m.store.marks) client.mark m.client.mark stored h.stored in
+pub opened_again : (ws : List Span) (old new : MemberState) → IsReopened old new → IsMember ws old → Becomes ws (record (follower old) { wish = NoWish }) new
+opened_again ws old new opened h =
+    let read = opened.read in
+    let w = opened.wish in
+    let shows = opened.shows in
+    let mark : new.client.mark ≡ old.client.mark = one_stored (last_mark old.store.marks) new.client.mark old.client.mark opened.mark h.stored in
     let calls = h.shown in
     let later = read.later in
     record {
-      follows = λ i. record { name = m.name; filter = f i; mark = mark i; wish = w i; armed = read.armed i; marks = read.marks i; shows = m.shows };
+      follows = λ i. record { name = opened.name i; filter = opened.filter i; mark = mark i; wish = w i; armed = read.armed i; marks = read.marks i; shows = shows i };
       member = record {
-        runs = runs;
+        runs = opened.runs;
         sound = read.fails ∙ h.sound;
-        stored = subst (λ (marks : List (List ℕ)). IsStored (last_mark marks) client.mark) (sym read.marks) stored;
-        good = rw (mark, f, read.rows) h.good;
+        stored = subst (λ (marks : List (List ℕ)). IsStored (last_mark marks) new.client.mark) (sym read.marks) opened.mark;
+        good = rw (mark, opened.filter, read.rows) h.good;
         shown = omega arith;
-        reached = rw (mark, w) (reached_again m.client.mark m.client.wish h.reached);
+        reached = rw (mark, w) (reached_again old.client.mark old.client.wish h.reached);
       };
     }

@@ -36,9 +36,9 @@ use Rattle.client_switch.proofs.Turns.{stays, lawful}
 use Rattle.history_core.specs.Script.{Follower, reply_line, stopped_line}
 use Rattle.history_core.specs.Steps.{committed, after_reply}
 use Rattle.history_core.specs.Bus.{MemberState, follower, IsReached, IsMember}
-use Rattle.history_core.specs.Acting.{sent, shape_line, Polls}
-use Rattle.history_core.specs.Polling.{Comes, IsReopened}
-use Rattle.history_core.proofs.Members.{one_stored}
+use Rattle.history_core.specs.Acting.{IsReopened, sent, shape_line, Polls}
+use Rattle.history_core.specs.Polling.{Comes}
+use Rattle.history_core.proofs.Members.{one_stored, reached_again}
 use Rattle.history_core.proofs.Replying.{printed, expected, some_shape, only_reply, expected_is_true, expected_reached}
 
 -- ---- keepers in memory
@@ -97,14 +97,6 @@ stored_is_mark (Some text) mark is = is.0
 -- the mark that is stored is the client's
 good_at : (ws : List Span) (test : Test) (store : MemoryStore) (mark : Mark) → KeepsGood ws test (told_by store) → IsStored (last_mark store.marks) mark → Good ws test mark store.rows
 good_at ws test store mark good stored = subst (λ (m : Mark). Good ws test m store.rows) (one_stored (last_mark store.marks) good.0 mark good.1 stored) good.2
-
--- a wish that is lost
-still_reached : (mark : Mark) (wish : Wish) → IsReached mark wish → IsReached mark NoWish
-still_reached (Online scn) wish is = tt
-still_reached (Delta since target cursor) wish is = absurd is
-still_reached (Snapshot since start top cursor) wish is = absurd is
-still_reached (Scanned since start top) wish is = absurd is
-still_reached (Catchup since start target at) wish is = absurd is
 
 -- ---- what a script says
 
@@ -248,8 +240,8 @@ module _ (ws : List Span) (r : Relay) (most : ℕ) (old : MemberState) (ask : As
           let good = good_at ws (test_of old.client.filter) store new.client.mark still_good opened.mark in
           let shown = comes.member.shown in
           let calls = after.counts.calls in
-          let reached_before = still_reached old.client.mark old.client.wish comes.member.reached in
-          let reached_after = still_reached t.mark t.wish (reached reply same_reply) in
+          let reached_before = reached_again old.client.mark old.client.wish comes.member.reached in
+          let reached_after = reached_again t.mark t.wish (reached reply same_reply) in
           record {
             turn =
                 stopped_turn t old store new text (reply_line reply) comes.member.sound opened line t.commits comes.member.stored mark halts.unmade

@@ -13,8 +13,10 @@ use Rattle.event_codec.specs.Frames.{answer_bytes}
 use Rattle.event_codec.specs.Reply.{reply_bytes}
 use Rattle.bus_wire.specs.declared.ask.Ask.{Ask}
 use Rattle.bus_wire.specs.declared.ask.Ask.TheVariants.{Stream, Start}
-use Rattle.bus_stores.specs.Memory.{MemoryStore}
+use Rattle.bus_stores.specs.Memory.{MemoryStore, last_mark}
 use Rattle.client_switch.specs.Moves.{question}
+use Rattle.client_switch.specs.Moves.Wish.{NoWish}
+use Rattle.client_switch.specs.Client.{IsStored}
 use Rattle.history_core.specs.declared.fault.StepFault.{StepFault}
 use Rattle.history_core.specs.declared.fault.StepFault.TheVariants.{BadLine, WriteFault, NoMemory}
 use Rattle.history_core.specs.Script.{Follower, new_boot, shown, served_line, answer_line}
@@ -30,6 +32,16 @@ pub record WasRead (old new : MemoryStore) : Type 0 where
   pub armed : new.armed ≡ old.armed
   pub fails : new.fails ≡ old.fails
   pub later : old.calls ≤ new.calls
+
+-- a client was opened again over what its keeper holds
+pub record IsReopened (old new : MemberState) : Type 0 where
+  pub name : new.name ≡ old.name
+  pub filter : new.client.filter ≡ old.client.filter
+  pub wish : new.client.wish ≡ NoWish
+  pub runs : new.client.halted ≡ false
+  pub mark : IsStored (last_mark old.store.marks) new.client.mark
+  pub read : WasRead old.store new.store
+  pub shows : new.shows ≡ old.shows
 
 -- a consumer became this follower, and is one of the source's still
 pub record Becomes (ws : List Span) (next : Follower) (new : MemberState) : Type 0 where

@@ -107,6 +107,6 @@ rows_text name scn rows = codes "show " ++ name ++ codes " online " ++ decimal s
 abbrev pub shown : List Span → Follower → Mark → List ℕ
 shown ws c (Online scn) = rows_text c.name scn (view (test_of c.filter) ws scn)
 shown ws c (Delta since target cursor) = codes "show " ++ c.name ++ codes " delta\n"
-shown ws c (Snapshot since start top cursor) = codes "show " ++ c.name ++ codes " snapshot\n"
-shown ws c (Scanned since start top) = codes "show " ++ c.name ++ codes " scanned\n"
-shown ws c (Catchup since start target at) = codes "show " ++ c.name ++ codes " catchup\n"
+shown ws c (Snapshot since begins top cursor) = codes "show " ++ c.name ++ codes " snapshot\n"
+shown ws c (Scanned since begins top) = codes "show " ++ c.name ++ codes " scanned\n"
+shown ws c (Catchup since begins target at) = codes "show " ++ c.name ++ codes " catchup\n"

@@ -7,7 +7,7 @@ ghost use Rattle.client_switch.specs.Moves.Wish.{NoWish};
 ghost use Rattle.client_switch.specs.Client.{IsStored};
 ghost use Rattle.history_core.specs.Steps.{new_follower};
 ghost use Rattle.history_core.specs.Bus.{follower, IsMember};
-ghost use Rattle.history_core.specs.Acting.{WasRead, Becomes, Shows};
+ghost use Rattle.history_core.specs.Acting.{WasRead, IsReopened, Becomes, Shows};
 
 use crate::text;
 use bus_stores::{MemoryKeeper, StoreFault, all_rows};
@@ -37,8 +37,8 @@ impl Model for Member {
     ghost view = { λ m. record { name = m.name; client = m.client; store = m.keeper; shows = m.shows } };
 }
 
-/// Opens a client over what a keeper holds that fails at no call.
-pub(crate) fn open(
+// Opens a client over what a keeper holds that fails at no call.
+fn open(
     alloc: Global,
     keeper: &mut MemoryKeeper,
     filter: Filter,
@@ -91,6 +91,16 @@ impl Member {
     pub fn crash(&mut self, alloc: Global) -> Result<(), NoMemory>
         requires { (ws : List Span) × IsMember ws self.old }
         ensures { OnOk result ((ws : List Span) → IsMember ws self.old → Becomes ws (record (follower self.old) { wish = NoWish }) self.new) }
+    {
+        self.reopen(alloc)
+    }
+
+    /// Opens its client again over what its keeper holds, also where the client has met a stop. After want of memory it
+    /// isn't used again.
+    pub fn reopen(&mut self, alloc: Global) -> Result<(), NoMemory>
+        requires sound { self.old.store.fails ≡ [] }
+        requires stored { (mark : Mark) × IsStored (last_mark self.old.store.marks) mark }
+        ensures { OnOk result (IsReopened self.old self.new) }
     {
         let filter = self.client.filter().copy(alloc)?;
         self.client = open(alloc, &mut self.keeper, filter)?;

@@ -6,10 +6,10 @@ ghost use Rattle.bus_stores.specs.Memory.{last_mark};
 ghost use Rattle.client_switch.specs.Client.{IsAskOf, IsStored, asks};
 ghost use Rattle.history_core.specs.Script.{stopped_line};
 ghost use Rattle.history_core.specs.Bus.{IsMember};
-ghost use Rattle.history_core.specs.Acting.{sent, Polls};
-ghost use Rattle.history_core.specs.Polling.{Comes, IsReopened};
+ghost use Rattle.history_core.specs.Acting.{IsReopened, sent, Polls};
+ghost use Rattle.history_core.specs.Polling.{Comes};
 
-use crate::member::{Member, open};
+use crate::member::Member;
 use crate::text;
 use bus_stores::Stop;
 use bus_types::NoMemory;
@@ -100,16 +100,5 @@ impl Member {
             Some(stop) => text::stopped(alloc, stop),
             None => unreachable!(),
         }
-    }
-
-    // Opens its client again over what its keeper holds, also where the client has met a stop.
-    fn reopen(&mut self, alloc: Global) -> Result<(), NoMemory>
-        requires sound { self.old.store.fails ≡ [] }
-        requires stored { (mark : Mark) × IsStored (last_mark self.old.store.marks) mark }
-        ensures { OnOk result (IsReopened self.old self.new) }
-    {
-        let filter = self.client.filter().copy(alloc)?;
-        self.client = open(alloc, &mut self.keeper, filter)?;
-        Ok(())
     }
 }
