@@ -1,5 +1,5 @@
 -- What each line of a script does to the bus.
-use Rattle.std.specs.Prelude.{ℕ, ◌+◌, Bool, true, false, if◌then◌else◌, ◌||◌, nat_le, List, [], ◌∷◌, ◌++◌, length, take, bytes_eq, Option, Some, None, option_map, option_and_then, is_some, slice_get, slice_set}
+use Rattle.std.specs.Prelude.{ℕ, ◌+◌, true, if◌then◌else◌, ◌||◌, nat_le, List, [], ◌∷◌, ◌++◌, length, take, bytes_eq, Option, Some, None, option_map, option_and_then, is_some, slice_get, slice_set}
 use Rattle.bus_types.specs.declared.change.Change.{Change}
 use Rattle.bus_types.specs.Change.{Test}
 use Rattle.bus_types.specs.Window.{Span, window_fault}
@@ -12,7 +12,7 @@ use Rattle.bus_stores.specs.Memory.{next_count}
 use Rattle.checkpoint.specs.declared.mark.Mark.{Mark}
 use Rattle.checkpoint.specs.declared.mark.Mark.TheVariants.{Online}
 use Rattle.checkpoint.specs.Mark.{mark_text}
-use Rattle.client_switch.specs.Moves.{Wish, Question, Reply, Turn, question, turn}
+use Rattle.client_switch.specs.Moves.{Question, Reply, Turn, question, turn}
 use Rattle.client_switch.specs.Moves.Wish.{NoWish}
 use Rattle.client_switch.specs.Moves.Question.{Stream, Start, Scan, Target, Catchup, Delta}
 use Rattle.client_switch.specs.True.{Boot, reply_of, boot_reply}

@@ -1,5 +1,5 @@
 -- Steps one after the other, for worked rows.
-use Rattle.std.specs.Prelude.{List, [], ◌∷◌, ◌++◌, ℕ, Option, Some, None, option_map, option_and_then, codes}
+use Rattle.std.specs.Prelude.{List, [], ◌∷◌, ◌++◌, ℕ, Option, Some, option_map, option_and_then}
 use Rattle.bus_types.specs.declared.change.Change.{Change}
 use Rattle.bus_types.specs.declared.change.Key.TheVariants.{Long}
 use Rattle.history_core.specs.Script.{State}

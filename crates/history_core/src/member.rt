@@ -38,11 +38,7 @@ impl Model for Member {
 }
 
 // Opens a client over what a keeper holds that fails at no call.
-fn open(
-    alloc: Global,
-    keeper: &mut MemoryKeeper,
-    filter: Filter,
-) -> Result<Client, NoMemory>
+fn open(alloc: Global, keeper: &mut MemoryKeeper, filter: Filter) -> Result<Client, NoMemory>
     requires sound { keeper.old.fails ≡ [] }
     requires stored { (mark : Mark) × IsStored (last_mark keeper.old.marks) mark }
     ensures filter { IfOk result (λ client. client.filter ≡ filter) }
