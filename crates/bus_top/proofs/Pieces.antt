@@ -8,8 +8,8 @@ use Rattle.std.proofs.lemmas.List.{length-append, length-take, get_or-take, drop
 use Rattle.memchr.specs.Find.{IsFirstByte, is_byte}
 use Rattle.trace_script.specs.Input.{RawLine, lines_of, IsPart}
 use Rattle.trace_script.proofs.LineLaws.{lines_of-line, lines_of-last, IsWhole-line, IsWhole-append, IsPart-append}
-use Rattle.history_core.specs.Run.{Played, before, ended}
-use Rattle.history_core.specs.Run.Ending.{Finished, BadAt, TooLongAt}
+use Rattle.history_core.specs.Run.{Played, before}
+use Rattle.history_core.specs.Run.Ending.{TooLongAt}
 use Rattle.history_core.specs.Bus.{Parts, state_of, IsSound}
 use Rattle.bus_top.specs.declared.session.Place.{Place}
 use Rattle.bus_top.specs.declared.session.Session.{Session}

@@ -6,7 +6,7 @@ use Rattle.std.proofs.KnownBytes.{Appends-nil, Appends-trans, Consumes-nil, Cons
 use Rattle.std.proofs.lemmas.List.{take-append-drop, take_at, take_all}
 use Rattle.trace_script.specs.Input.{lines_of, whole_part}
 use Rattle.trace_script.proofs.LineLaws.{whole_part-append, IsWhole-append}
-use Rattle.history_core.specs.Script.{State, start}
+use Rattle.history_core.specs.Script.{start}
 use Rattle.history_core.specs.Run.{Played, Ending, before, played, script}
 use Rattle.history_core.specs.Run.Ending.{Finished, BadAt, TooLongAt}
 use Rattle.history_core.specs.Bus.{Parts, state_of, IsSound}
@@ -16,7 +16,7 @@ use Rattle.bus_top.specs.declared.session.Stop.TheVariants.{BadLine, TooLong, No
 use Rattle.bus_top.specs.Session.{run_bytes, IsSession, Takes, Finishes, Reached}
 use Rattle.bus_top.specs.declared.status.Status.{Status}
 use Rattle.bus_top.specs.declared.status.Status.TheVariants.{Done, Usage, ReadFault, WriteFault, BadLine as StatusBadLine, NoMemory as StatusNoMemory, TooLong as StatusTooLong}
-use Rattle.bus_top.specs.Trace.{EndsAt, StopsReading, StopsWriting, LeavesBus, LeavesFrontBus, HandsBack, kept_by, Ended, EndedWith, Ends, EndsWith, BreaksOff, stop_status}
+use Rattle.bus_top.specs.Trace.{EndsAt, StopsWriting, LeavesBus, EndedWith, Ends, EndsWith, BreaksOff, stop_status}
 use Rattle.bus_top.proofs.Streams.{before-before, before-ended, no_line, starts}
 
 -- before the first read

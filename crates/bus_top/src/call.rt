@@ -16,9 +16,9 @@ const PIECE: usize = 65_536;
 
 /// Runs the script that the input holds, and writes what its lines print, under the one word `trace`.
 ///
-/// `kept` gets the bus, where it is one still: after `Done` as the lines left it, after `BadLine` and `TooLong` as those
-/// before the line at fault did, and after `ReadFault` as the whole lines that were read did. After `Usage`, `WriteFault`
-/// and `NoMemory` it stays `None`.
+/// `kept` is `None` before, and gets the bus of the script: after `Done` as its lines left it, after `BadLine` and
+/// `TooLong` as the lines before the one at fault did, and after `ReadFault` as the whole lines that were read did. After
+/// `Usage`, `WriteFault` and `NoMemory` it is `None` still.
 pub fn trace<S: Source, W: Sink>(
     alloc: Global,
     words: &[String],
