@@ -1,3 +1,5 @@
 pub mod Lawful
 pub mod Served
 pub mod Run
+pub mod Questions
+pub mod True

@@ -15,9 +15,10 @@ use Rattle.bus_types.proofs.Runs.{view_replies}
 use Rattle.event_codec.specs.declared.answer.Answer.TheVariants.{NotFound}
 use Rattle.checkpoint.specs.declared.mark.Mark.TheVariants.{Online}
 use Rattle.checkpoint.specs.Mark.{IsMark}
-use Rattle.client_switch.specs.Moves.{Reply, Windows, Only, changes_of}
+use Rattle.bus_wire.specs.Questions.{Reply, Windows, Only}
+use Rattle.client_switch.specs.Moves.{changes_of}
 use Rattle.client_switch.specs.Good.{Good}
-use Rattle.client_switch.specs.True.{reply_of, IsServedBy}
+use Rattle.bus_wire.specs.True.{reply_of, IsServedBy}
 use Rattle.client_switch.proofs.Payloads.{view_lacks}
 use Rattle.client_switch.proofs.Ranges.{end_below}
 use Rattle.client_switch.proofs.Runs.{IsRun, place_within, run_high, run_above}

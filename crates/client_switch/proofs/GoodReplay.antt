@@ -13,9 +13,10 @@ use Rattle.bus_types.proofs.TableLaws.{payload_after, payload_at-after, rows_aft
 use Rattle.event_codec.specs.declared.answer.Answer.TheVariants.{Behind, LogGone}
 use Rattle.checkpoint.specs.declared.mark.Mark.TheVariants.{Online, Catchup as Replaying}
 use Rattle.checkpoint.specs.Mark.{IsMark}
-use Rattle.client_switch.specs.Moves.{Catchup, Reply, Windows, Only, changes_of}
+use Rattle.bus_wire.specs.Questions.{Catchup, Reply, Windows, Only}
+use Rattle.client_switch.specs.Moves.{changes_of}
 use Rattle.client_switch.specs.Good.{IsAsAt, IsAsWithin, changed, Good}
-use Rattle.client_switch.specs.True.{replay_of, IsBootedBy}
+use Rattle.bus_wire.specs.True.{replay_of, IsBootedBy}
 use Rattle.client_switch.proofs.Payloads.{last_between-split, changed_at, unchanged, view_is}
 use Rattle.client_switch.proofs.Runs.{IsRun, run_low, run_high, run_above, run_changes}
 use Rattle.client_switch.proofs.Replies.{Keeps, good_small, good_behind, good_gone, replay_cases}

@@ -9,9 +9,9 @@ use Rattle.event_codec.specs.declared.answer.Answer.TheVariants.{Behind, StartDe
 use Rattle.checkpoint.specs.declared.mark.Mark.{Mark}
 use Rattle.checkpoint.specs.declared.mark.Mark.TheVariants.{Online, Delta, Snapshot, Scanned, Catchup}
 use Rattle.checkpoint.specs.Mark.{IsMark, floor_of}
-use Rattle.client_switch.specs.Moves.{Start, Reply, Only}
+use Rattle.bus_wire.specs.Questions.{Start, Reply, Only}
 use Rattle.client_switch.specs.Good.{Good, greatest}
-use Rattle.client_switch.specs.True.{IsBootedBy}
+use Rattle.bus_wire.specs.True.{IsBootedBy}
 use Rattle.client_switch.proofs.Payloads.{view_has}
 use Rattle.client_switch.proofs.Ranges.{end_below}
 use Rattle.client_switch.proofs.Runs.{place_within}

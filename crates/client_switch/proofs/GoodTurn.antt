@@ -7,9 +7,10 @@ use Rattle.bus_types.specs.Table.{RowList}
 use Rattle.checkpoint.specs.declared.mark.Mark.{Mark}
 use Rattle.checkpoint.specs.declared.mark.Mark.TheVariants.{Online, Delta, Snapshot, Scanned, Catchup}
 use Rattle.checkpoint.specs.Mark.{IsMark}
-use Rattle.client_switch.specs.Moves.{Wish, NoWish, StartWish, FreshWish, IsWished, Reply, question}
+use Rattle.bus_wire.specs.Questions.{Reply}
+use Rattle.client_switch.specs.Moves.{Wish, NoWish, StartWish, FreshWish, IsWished, question}
 use Rattle.client_switch.specs.Good.{Good}
-use Rattle.client_switch.specs.True.{IsTrueOf}
+use Rattle.bus_wire.specs.True.{IsTrueOf}
 use Rattle.client_switch.proofs.Replies.{Keeps}
 use Rattle.client_switch.proofs.GoodOnline.{good_stream}
 use Rattle.client_switch.proofs.GoodStart.{good_start, good_fresh}

@@ -18,7 +18,7 @@ use Rattle.bus_types.specs.View.{view}
 use Rattle.bus_types.proofs.Stretches.{between_cases}
 use Rattle.checkpoint.specs.Mark.{IsCursor}
 use Rattle.client_switch.specs.Moves.{cursor_after}
-use Rattle.client_switch.specs.True.{Latest, latest_after, last_changes, changes_after, puts_of}
+use Rattle.bus_wire.specs.True.{Latest, latest_after, last_changes, changes_after, puts_of}
 
 -- ---- elements
 

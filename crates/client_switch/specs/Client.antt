@@ -21,11 +21,12 @@ use Rattle.dispatcher.specs.Telling.{AreAll}
 use Rattle.client_switch.specs.declared.client.Took.{Took}
 use Rattle.client_switch.specs.declared.fault.TakeFault.{TakeFault}
 use Rattle.client_switch.specs.declared.fault.TakeFault.TheVariants.{Halted, BadReply, Refused, StoreFault, NoMemory}
-use Rattle.client_switch.specs.Moves.{Wish, Question, Reply, Turn, question, turn}
-use Rattle.client_switch.specs.Moves.Question.{Stream, Start, Scan, Target, Catchup, Delta}
-use Rattle.client_switch.specs.Moves.Reply.{Windows, Only}
+use Rattle.bus_wire.specs.Questions.{Question, Reply}
+use Rattle.client_switch.specs.Moves.{Wish, Turn, question, turn}
+use Rattle.bus_wire.specs.Questions.Question.{Stream, Start, Scan, Target, Catchup, Delta}
+use Rattle.bus_wire.specs.Questions.Reply.{Windows, Only}
 use Rattle.client_switch.specs.Good.{Good}
-use Rattle.client_switch.specs.True.{IsTrueOf}
+use Rattle.bus_wire.specs.True.{IsTrueOf}
 
 -- a client: the filter of its rows, the mark that its keeper holds, what it wants beside it, and whether it has met a fault of
 -- its keeper

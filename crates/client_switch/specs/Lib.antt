@@ -1,6 +1,5 @@
 pub mod Moves
 pub mod Good
-pub mod True
 pub mod Lawful
 pub mod Worked
 pub mod Client

@@ -8,6 +8,9 @@ use Rattle.bus_types.specs.Timeline.{end_from}
 use Rattle.bus_types.specs.Table.{RowList, rows_after}
 use Rattle.event_codec.specs.declared.answer.Answer.{Answer}
 use Rattle.event_codec.specs.declared.answer.Answer.TheVariants.{NotFound, Empty, TooSmall, Behind, LogGone, StartDelta, StartSnapshot, Target as GoTo}
+use Rattle.bus_wire.specs.Questions.{Question, Reply}
+use Rattle.bus_wire.specs.Questions.Question.{Stream, Start, Scan, Target, Catchup, Delta}
+use Rattle.bus_wire.specs.Questions.Reply.{Windows, Rows, Changes, Only}
 use Rattle.checkpoint.specs.declared.mark.Mark.{Mark}
 use Rattle.checkpoint.specs.declared.mark.Mark.TheVariants.{Online, Delta as Catching, Snapshot, Scanned, Catchup as Replaying}
 use Rattle.checkpoint.specs.Mark.{floor_of}
@@ -28,17 +31,6 @@ IsWished (Snapshot since start top cursor) StartWish = ⊥
 IsWished (Scanned since start top) StartWish = ⊥
 IsWished (Replaying since start target at) StartWish = ⊥
 
--- what is asked, beside the filter: the windows after an SCN; how to begin again; the rows after a cursor, none read before an
--- SCN; where a scan's replay is to end; the windows up to there; the last changes of the rows that changed. The last number of
--- those with windows, rows or changes is the most bytes of the reply
-pub data Question : Type 0 where
-  Stream : ℕ → ℕ → Question
-  Start : ℕ → Bool → Question
-  Scan : ℕ → Cursor → ℕ → Question
-  Target : ℕ → ℕ → Question
-  Catchup : ℕ → ℕ → ℕ → Question
-  Delta : ℕ → ℕ → Cursor → ℕ → Question
-
 -- what a mark asks next
 abbrev pub next_question : Mark → ℕ → Question
 next_question (Online scn) most = Stream scn most
@@ -52,14 +44,6 @@ abbrev pub question : Mark → Wish → ℕ → Question
 question mark NoWish most = next_question mark most
 question mark StartWish most = Start (floor_of mark) false
 question mark FreshWish most = Start (floor_of mark) true
-
--- a reply: cut windows; rows as puts, their SCN, and whether a row is left; changes, their SCN, and whether one is left; or an
--- answer
-pub data Reply : Type 0 where
-  Windows : List Span → Reply
-  Rows : List Change → ℕ → Bool → Reply
-  Changes : List Change → ℕ → Bool → Reply
-  Only : Answer → Reply
 
 -- what a reply makes: the mark, whether it and the rest are committed, whether all rows are cleared first, the changes that
 -- are then made in order, and the wish

@@ -6,9 +6,10 @@ ghost use Rattle.bus_types.specs.Table.{RowList};
 ghost use Rattle.checkpoint.specs.declared.mark.Mark.{Mark};
 ghost use Rattle.checkpoint.specs.declared.mark.Mark.TheVariants.{Online};
 ghost use Rattle.checkpoint.specs.Mark.{IsMark, floor_of};
-ghost use Rattle.client_switch.specs.Moves.{Wish, IsWished, Reply, question, turn, rows_left};
+ghost use Rattle.bus_wire.specs.Questions.{Reply};
+ghost use Rattle.client_switch.specs.Moves.{Wish, IsWished, question, turn, rows_left};
 ghost use Rattle.client_switch.specs.Good.{Good};
-ghost use Rattle.client_switch.specs.True.{IsTrueOf};
+ghost use Rattle.bus_wire.specs.True.{IsTrueOf};
 ghost use Rattle.client_switch.specs.Lawful.{IsLawfulFor};
 
 /// A law of a client: where its rows are good for its mark and a timeline, its wish is one that comes up at the mark, and the

@@ -24,11 +24,12 @@ use Rattle.bus_stores.specs.Memory.{MemoryStore, last_mark, no_fails, told_by}
 use Rattle.client_switch.specs.declared.client.Took.{Took}
 use Rattle.client_switch.specs.declared.fault.TakeFault.{TakeFault}
 use Rattle.client_switch.specs.declared.fault.TakeFault.TheVariants.{Halted, BadReply, Refused, StoreFault, NoMemory}
-use Rattle.client_switch.specs.Moves.{Wish, Reply, Turn, turn}
+use Rattle.bus_wire.specs.Questions.{Reply}
+use Rattle.client_switch.specs.Moves.{Wish, Turn, turn}
 use Rattle.client_switch.specs.Moves.Wish.{NoWish}
 use Rattle.client_switch.specs.Good.{Good}
 use Rattle.client_switch.specs.Client.{Held, IsStored, Keeps, IsAskOf, asks, IsReply, move_of_turn, Made, Unmade, TakesIt, RefusesReply, Halts, Takes, CountsKept, OnRefused, HasRefusal, HoldsGood, KeepsGood, AreTrueOf}
-use Rattle.client_switch.specs.True.{IsTrueOf}
+use Rattle.bus_wire.specs.True.{IsTrueOf}
 use Rattle.client_switch.specs.Turning.{CanCome}
 use Rattle.client_switch.proofs.Coming.{can_come}
 use Rattle.client_switch.proofs.Turns.{stays, lawful}

@@ -25,12 +25,13 @@ use Rattle.bus_wire.proofs.Uniqueness.{one_shape}
 use Rattle.bus_wire.proofs.Replies.{relay_serves, relay_is_lawful}
 use Rattle.checkpoint.specs.declared.mark.Mark.{Mark}
 use Rattle.checkpoint.specs.declared.mark.Mark.TheVariants.{Online, Delta, Snapshot, Scanned, Catchup}
-use Rattle.client_switch.specs.Moves.{Wish, Question, Reply, question, turn}
+use Rattle.bus_wire.specs.Questions.{Question, Reply}
+use Rattle.client_switch.specs.Moves.{Wish, question, turn}
 use Rattle.client_switch.specs.Moves.Wish.{NoWish, StartWish, FreshWish}
-use Rattle.client_switch.specs.Moves.Question.{Stream, Start}
-use Rattle.client_switch.specs.Moves.Reply.{Windows, Only}
+use Rattle.bus_wire.specs.Questions.Question.{Stream, Start}
+use Rattle.bus_wire.specs.Questions.Reply.{Windows, Only}
 use Rattle.client_switch.specs.Client.{is_built, IsAskOf, IsReply}
-use Rattle.client_switch.specs.True.{reply_of, IsTrueOf}
+use Rattle.bus_wire.specs.True.{reply_of, IsTrueOf}
 use Rattle.history_core.specs.Script.{new_boot, served_line, reply_line}
 use Rattle.history_core.specs.Steps.{replied}
 use Rattle.history_core.specs.Bus.{IsReached}

@@ -12,10 +12,11 @@ use Rattle.bus_stores.specs.Memory.{next_count}
 use Rattle.checkpoint.specs.declared.mark.Mark.{Mark}
 use Rattle.checkpoint.specs.declared.mark.Mark.TheVariants.{Online}
 use Rattle.checkpoint.specs.Mark.{mark_text}
-use Rattle.client_switch.specs.Moves.{Question, Reply, Turn, question, turn}
+use Rattle.bus_wire.specs.Questions.{Question, Reply}
+use Rattle.client_switch.specs.Moves.{Turn, question, turn}
 use Rattle.client_switch.specs.Moves.Wish.{NoWish}
-use Rattle.client_switch.specs.Moves.Question.{Stream, Start, Scan, Target, Catchup, Delta}
-use Rattle.client_switch.specs.True.{Boot, reply_of, boot_reply}
+use Rattle.bus_wire.specs.Questions.Question.{Stream, Start, Scan, Target, Catchup, Delta}
+use Rattle.bus_wire.specs.True.{Boot, reply_of, boot_reply}
 use Rattle.history_core.specs.Script.{Follower, State, floor, relay_line, stream_line, reply_line, stopped_line, shown}
 
 -- what a line leaves: the state after it and the text that it prints, or nothing where it is against a rule

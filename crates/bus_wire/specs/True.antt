@@ -14,9 +14,9 @@ use Rattle.bus_types.specs.Cut.{cuts}
 use Rattle.bus_types.specs.Relay.{Served, is_place, fitting, stream}
 use Rattle.bus_types.specs.Relay.Served.{Windows as SomeWindows, NotFound as NoWindow, Empty as NothingNew, TooSmall as TooLarge}
 use Rattle.event_codec.specs.declared.answer.Answer.TheVariants.{NotFound, Empty, TooSmall, Behind, LogGone, StartDelta, StartSnapshot, Target as GoTo}
-use Rattle.client_switch.specs.Moves.{Question, Reply}
-use Rattle.client_switch.specs.Moves.Question.{Stream, Start, Scan, Target, Catchup, Delta}
-use Rattle.client_switch.specs.Moves.Reply.{Windows, Rows, Changes, Only}
+use Rattle.bus_wire.specs.Questions.{Question, Reply}
+use Rattle.bus_wire.specs.Questions.Question.{Stream, Start, Scan, Target, Catchup, Delta}
+use Rattle.bus_wire.specs.Questions.Reply.{Windows, Rows, Changes, Only}
 
 -- what a relay serves, as a reply
 abbrev pub reply_of : Served → Reply
