@@ -6,30 +6,30 @@ use Rattle.std.specs.Io.{StartsWith}
 use Rattle.std.proofs.lemmas.Bool.{eqb-true, eqb-false}
 use Rattle.std.proofs.lemmas.List.{length-append, length-take, get_or-take, drop_more, take_rest, take-append-drop}
 use Rattle.memchr.specs.Find.{IsFirstByte, is_byte}
-use Rattle.trace_script.specs.Run.{RawLine, lines_of, IsPart, Played, before, ended}
-use Rattle.trace_script.specs.Run.Ending.{Finished, BadAt, TooLongAt}
-use Rattle.trace_script.proofs.LineLaws.{lines_of-line, lines_of-last, long_part, IsWhole-line, IsWhole-append, IsPart-append}
-use Rattle.bus_top.specs.declared.bus.Bus.{Bus}
+use Rattle.trace_script.specs.Input.{RawLine, lines_of, IsPart}
+use Rattle.trace_script.proofs.LineLaws.{lines_of-line, lines_of-last, IsWhole-line, IsWhole-append, IsPart-append}
+use Rattle.history_core.specs.Run.{Played, before, ended}
+use Rattle.history_core.specs.Run.Ending.{Finished, BadAt, TooLongAt}
+use Rattle.history_core.specs.Bus.{Parts, state_of, IsSound}
 use Rattle.bus_top.specs.declared.session.Place.{Place}
 use Rattle.bus_top.specs.declared.session.Session.{Session}
 use Rattle.bus_top.specs.declared.session.Stop.{Stop}
 use Rattle.bus_top.specs.declared.session.Stop.TheVariants.{BadLine, TooLong, NoMemory}
-use Rattle.bus_top.specs.Bus.{state_of}
 use Rattle.bus_top.specs.Session.{SameRun, Stops, run_lines, run_bytes, TakesLine, IsSession, TookSome, Holds, TakesEnd, Takes, Finishes}
-use Rattle.bus_top.proofs.Streams.{before-ended, no_line, starts}
+use Rattle.bus_top.proofs.Streams.{before-ended, no_line, part_stops, starts}
 
--- a run that stops, seen from another text and other runs that are the same
-pub stops_by : {X Y : Type 0} (stop : Stop) (text other : List ℕ) (plays : X → Played) (after : Y → Played) (to : Y → X) → ((y : Y) → after y ≡ plays (to y)) → other ≡ text → Stops stop text plays → Stops stop other after
-stops_by (BadLine n) text other plays after to e t h = λ y. e y ∙ h (to y) ∙ ap (λ (l : List ℕ). record { text = l; ending = BadAt n }) (sym t)
-stops_by (TooLong n) text other plays after to e t h = λ y. e y ∙ h (to y) ∙ ap (λ (l : List ℕ). record { text = l; ending = TooLongAt n }) (sym t)
-stops_by NoMemory text other plays after to e t h = λ y. subst (λ (p : Played). StartsWith p.text other) (sym (e y)) (subst (λ (l : List ℕ). StartsWith (plays (to y)).text l) (sym t) (h (to y)))
+-- a run that stops, seen from other runs that are the same
+pub stops_by : {X Y : Type 0} (stop : Stop) (text : List ℕ) (b : Parts) (plays : X → Played) (after : Y → Played) (to : Y → X) → ((y : Y) → after y ≡ plays (to y)) → Stops stop text b plays → Stops stop text b after
+stops_by (BadLine n) text b plays after to e h = (h.0, λ y. e y ∙ h.1 (to y))
+stops_by (TooLong n) text b plays after to e h = (h.0, λ y. e y ∙ h.1 (to y))
+stops_by NoMemory text b plays after to e h = λ y. subst (λ (p : Played). StartsWith p.text text) (sym (e y)) (h (to y))
 
 -- bytes that begin with a line and its LF
-line_run : (b : Bus) (p : Place) (line rest : List ℕ) → IsPart line → run_bytes b p (line ++ 10 ∷ rest) ≡ run_lines b p ((record { text = line; size = length line + 1 }) ∷ lines_of rest)
+line_run : (b : Parts) (p : Place) (line rest : List ℕ) → IsPart line → run_bytes b p (line ++ 10 ∷ rest) ≡ run_lines b p ((record { text = line; size = length line + 1 }) ∷ lines_of rest)
 line_run b p line rest part = ap (run_lines b p) (lines_of-line line rest part)
 
 -- a line that was taken, as a line whose text had come
-pub takes_end : (result : Result Unit Stop) (line : List ℕ) (s : Session) (text : List ℕ) (b : Bus) (p : Place) (pending : Vec ℕ Global) (text' : List ℕ) → IsPart line → pending.items ≡ [] → TakesLine result (record { text = line; size = length line + 1 }) s.bus s.place text b p text' → TakesEnd result line s text (record { bus = b; place = p; pending = pending }) text'
+pub takes_end : (result : Result Unit Stop) (line : List ℕ) (s : Session) (text : List ℕ) (b : Parts) (p : Place) (pending : Vec ℕ Global) (text' : List ℕ) → IsPart line → pending.items ≡ [] → TakesLine result (record { text = line; size = length line + 1 }) s.bus s.place text b p text' → TakesEnd result line s text (record { bus = b; place = p; pending = pending }) text'
 takes_end (Ok u) line s text b p pending text' part none h =
     let used = h.2 in
     let within = h.1.used in
@@ -40,31 +40,31 @@ takes_end (Ok u) line s text b p pending text' part none h =
       λ rest. h.3 (lines_of rest) ∙ ap (before text) (sym (line_run s.bus s.place line rest part)),
     )
 takes_end (Err stop) line s text b p pending text' part none h =
-    stops_by stop text text' (λ ls. before text (run_lines s.bus s.place ((record { text = line; size = length line + 1 }) ∷ ls))) (λ rest. before text (run_bytes s.bus s.place (line ++ 10 ∷ rest))) lines_of (λ rest. ap (before text) (line_run s.bus s.place line rest part)) h.0 h.1
+    stops_by stop text' b (λ ls. before text (run_lines s.bus s.place ((record { text = line; size = length line + 1 }) ∷ ls))) (λ rest. before text (run_bytes s.bus s.place (line ++ 10 ∷ rest))) lines_of (λ rest. ap (before text) (line_run s.bus s.place line rest part)) h
 
 -- a part of a line that is too long already, or that finds no memory, stops whatever follows it
-pub holds_err : (stop : Stop) (s : Session) (text part : List ℕ) (pending : List ℕ) → IsPart (s.pending.items ++ part) → Holds (Err stop) s.place s.pending.items part pending → Stops stop text (λ (rest : List ℕ). before text (run_bytes s.bus s.place ((s.pending.items ++ part) ++ rest)))
-holds_err (BadLine n) s text part pending p h = absurd h
-holds_err (TooLong n) s text part pending p h =
-    λ rest. ap (before text) (long_part (state_of s.bus) s.place.count s.place.used (s.pending.items ++ part) rest p h.1 h.2) ∙ before-ended text (TooLongAt (s.place.count + 1)) ∙ ap (λ (n : ℕ). record { text = text; ending = TooLongAt n }) (sym h.0)
-holds_err NoMemory s text part pending p h = λ rest. starts text _
+pub holds_err : (stop : Stop) (s : Session) (text part : List ℕ) (pending : List ℕ) → IsSound s.bus → IsPart (s.pending.items ++ part) → Holds (Err stop) s.place s.pending.items part pending → Stops stop text s.bus (λ (rest : List ℕ). before text (run_bytes s.bus s.place ((s.pending.items ++ part) ++ rest)))
+holds_err (BadLine n) s text part pending sound p h = absurd h
+holds_err (TooLong n) s text part pending sound p h =
+    (sound, λ rest. ap (before text) (part_stops (state_of s.bus) s.place.count s.place.used (s.pending.items ++ part) rest p h.1 h.2) ∙ before-ended text (TooLongAt (s.place.count + 1)) (state_of s.bus) ∙ ap (λ (n : ℕ). record { text = text; ending = TooLongAt n; state = state_of s.bus }) (sym h.0))
+holds_err NoMemory s text part pending sound p h = λ rest. starts text _
 
 -- the same before its LF
-pub holds_err_end : (stop : Stop) (s : Session) (text part : List ℕ) (pending : List ℕ) → IsPart (s.pending.items ++ part) → Holds (Err stop) s.place s.pending.items part pending → Stops stop text (λ (rest : List ℕ). before text (run_bytes s.bus s.place ((s.pending.items ++ part) ++ 10 ∷ rest)))
-holds_err_end stop s text part pending p h =
-    stops_by stop text text (λ (rest : List ℕ). before text (run_bytes s.bus s.place ((s.pending.items ++ part) ++ rest))) (λ (rest : List ℕ). before text (run_bytes s.bus s.place ((s.pending.items ++ part) ++ 10 ∷ rest))) (λ rest. 10 ∷ rest) (λ rest. refl) refl (holds_err stop s text part pending p h)
+pub holds_err_end : (stop : Stop) (s : Session) (text part : List ℕ) (pending : List ℕ) → IsSound s.bus → IsPart (s.pending.items ++ part) → Holds (Err stop) s.place s.pending.items part pending → Stops stop text s.bus (λ (rest : List ℕ). before text (run_bytes s.bus s.place ((s.pending.items ++ part) ++ 10 ∷ rest)))
+holds_err_end stop s text part pending sound p h =
+    stops_by stop text s.bus (λ (rest : List ℕ). before text (run_bytes s.bus s.place ((s.pending.items ++ part) ++ rest))) (λ (rest : List ℕ). before text (run_bytes s.bus s.place ((s.pending.items ++ part) ++ 10 ∷ rest))) (λ rest. 10 ∷ rest) (λ rest. refl) (holds_err stop s text part pending sound p h)
 
-takes_err : (stop : Stop) (line : List ℕ) (s : Session) (text : List ℕ) (b : Bus) (p : Place) (text' : List ℕ) → IsPart line → TakesLine (Err stop) (record { text = line; size = length line + 1 }) s.bus s.place text b p text' → Stops stop text' (λ (rest : List ℕ). before text (run_bytes s.bus s.place (line ++ 10 ∷ rest)))
+takes_err : (stop : Stop) (line : List ℕ) (s : Session) (text : List ℕ) (b : Parts) (p : Place) (text' : List ℕ) → IsPart line → TakesLine (Err stop) (record { text = line; size = length line + 1 }) s.bus s.place text b p text' → Stops stop text' b (λ (rest : List ℕ). before text (run_bytes s.bus s.place (line ++ 10 ∷ rest)))
 takes_err stop line s text b p text' part h =
-    stops_by stop text text' (λ ls. before text (run_lines s.bus s.place ((record { text = line; size = length line + 1 }) ∷ ls))) (λ rest. before text (run_bytes s.bus s.place (line ++ 10 ∷ rest))) lines_of (λ rest. ap (before text) (line_run s.bus s.place line rest part)) h.0 h.1
+    stops_by stop text' b (λ ls. before text (run_lines s.bus s.place ((record { text = line; size = length line + 1 }) ∷ ls))) (λ rest. before text (run_bytes s.bus s.place (line ++ 10 ∷ rest))) lines_of (λ rest. ap (before text) (line_run s.bus s.place line rest part)) h
 
 -- a line that was joined stops the run
-pub joined_err : (stop : Stop) (seen line : List ℕ) (s : Session) (text : List ℕ) (b : Bus) (p : Place) (text' : List ℕ) → seen ≡ line → IsPart line → TakesLine (Err stop) (record { text = seen; size = length seen + 1 }) s.bus s.place text b p text' → Stops stop text' (λ (rest : List ℕ). before text (run_bytes s.bus s.place (line ++ 10 ∷ rest)))
+pub joined_err : (stop : Stop) (seen line : List ℕ) (s : Session) (text : List ℕ) (b : Parts) (p : Place) (text' : List ℕ) → seen ≡ line → IsPart line → TakesLine (Err stop) (record { text = seen; size = length seen + 1 }) s.bus s.place text b p text' → Stops stop text' b (λ (rest : List ℕ). before text (run_bytes s.bus s.place (line ++ 10 ∷ rest)))
 joined_err stop seen line s text b p text' e part h =
     takes_err stop line s text b p text' part (subst (λ (l : List ℕ). TakesLine (Err stop) (record { text = l; size = length l + 1 }) s.bus s.place text b p text') e h)
 
 -- a line that was joined was taken
-pub joined_ok : (u : Unit {0}) (seen line : List ℕ) (s : Session) (text : List ℕ) (b : Bus) (p : Place) (pending : Vec ℕ Global) (text' : List ℕ) → seen ≡ line → IsPart line → pending.items ≡ [] → TakesLine (Ok u) (record { text = seen; size = length seen + 1 }) s.bus s.place text b p text' → TakesEnd (Ok u) line s text (record { bus = b; place = p; pending = pending }) text'
+pub joined_ok : (u : Unit {0}) (seen line : List ℕ) (s : Session) (text : List ℕ) (b : Parts) (p : Place) (pending : Vec ℕ Global) (text' : List ℕ) → seen ≡ line → IsPart line → pending.items ≡ [] → TakesLine (Ok u) (record { text = seen; size = length seen + 1 }) s.bus s.place text b p text' → TakesEnd (Ok u) line s text (record { bus = b; place = p; pending = pending }) text'
 joined_ok u seen line s text b p pending text' e part none h =
     takes_end (Ok u) line s text b p pending text' part none (subst (λ (l : List ℕ). TakesLine (Ok u) (record { text = l; size = length l + 1 }) s.bus s.place text b p text') e h)
 
@@ -98,14 +98,14 @@ took_more u come rest line more s text s1 text1 s2 text2 h part e t =
     }
 
 -- a line stops the run
-pub took_err : (stop : Stop) (come rest line more : List ℕ) (s : Session) (text : List ℕ) (s1 : Session) (text1 text2 : List ℕ) → TookSome come rest s text s1 text1 → rest ≡ line ++ 10 ∷ more → Stops stop text2 (λ (r : List ℕ). before text1 (run_bytes s1.bus s1.place ((s1.pending.items ++ line) ++ 10 ∷ r))) → Stops stop text2 (λ (r : List ℕ). before text (run_bytes s.bus s.place (come ++ r)))
-took_err stop come rest line more s text s1 text1 text2 h e t =
+pub took_err : (stop : Stop) (come rest line more : List ℕ) (s : Session) (text : List ℕ) (s1 : Session) (text1 text2 : List ℕ) (b2 : Parts) → TookSome come rest s text s1 text1 → rest ≡ line ++ 10 ∷ more → Stops stop text2 b2 (λ (r : List ℕ). before text1 (run_bytes s1.bus s1.place ((s1.pending.items ++ line) ++ 10 ∷ r))) → Stops stop text2 b2 (λ (r : List ℕ). before text (run_bytes s.bus s.place (come ++ r)))
+took_err stop come rest line more s text s1 text1 text2 b2 h e t =
     let whole-is : (r : List ℕ) → come ++ r ≡ h.whole ++ ((s1.pending.items ++ line) ++ 10 ∷ (more ++ r)) = λ r.
     ap (λ (l : List ℕ). l ++ r) h.parts ∙ append_assoc h.whole (s1.pending.items ++ rest) r
     ∙ ap (λ (l : List ℕ). h.whole ++ ((s1.pending.items ++ l) ++ r)) e
     ∙ ap (λ (l : List ℕ). h.whole ++ (l ++ r)) (sym (append_assoc s1.pending.items line (10 ∷ more)))
     ∙ ap (λ (l : List ℕ). h.whole ++ l) (append_assoc (s1.pending.items ++ line) (10 ∷ more) r) in
-    stops_by stop text2 text2 (λ (r : List ℕ). before text1 (run_bytes s1.bus s1.place ((s1.pending.items ++ line) ++ 10 ∷ r))) (λ (r : List ℕ). before text (run_bytes s.bus s.place (come ++ r))) (λ r. more ++ r) (λ r. ap (λ (l : List ℕ). before text (run_bytes s.bus s.place l)) (whole-is r) ∙ sym (h.same ((s1.pending.items ++ line) ++ 10 ∷ (more ++ r)))) refl t
+    stops_by stop text2 b2 (λ (r : List ℕ). before text1 (run_bytes s1.bus s1.place ((s1.pending.items ++ line) ++ 10 ∷ r))) (λ (r : List ℕ). before text (run_bytes s.bus s.place (come ++ r))) (λ r. more ++ r) (λ r. ap (λ (l : List ℕ). before text (run_bytes s.bus s.place l)) (whole-is r) ∙ sym (h.same ((s1.pending.items ++ line) ++ 10 ∷ (more ++ r)))) t
 
 -- what is left of a piece was kept, or stops the run
 pub took_rest : (result : Result Unit Stop) (come rest : List ℕ) (s : Session) (text : List ℕ) (s1 : Session) (text1 : List ℕ) (pending : Vec ℕ Global) → TookSome come rest s text s1 text1 → IsPart rest → Holds result s1.place s1.pending.items rest pending.items → Takes result come s text (record { bus = s1.bus; place = s1.place; pending = pending }) text1
@@ -123,7 +123,7 @@ took_rest (Ok u) come rest s text s1 text1 pending h part held =
     }
 took_rest (Err stop) come rest s text s1 text1 pending h part held =
     let whole-is : (r : List ℕ) → come ++ r ≡ h.whole ++ ((s1.pending.items ++ rest) ++ r) = λ r. ap (λ (l : List ℕ). l ++ r) h.parts ∙ append_assoc h.whole (s1.pending.items ++ rest) r in
-    stops_by stop text1 text1 (λ (r : List ℕ). before text1 (run_bytes s1.bus s1.place ((s1.pending.items ++ rest) ++ r))) (λ (r : List ℕ). before text (run_bytes s.bus s.place (come ++ r))) (λ r. r) (λ r. ap (λ (l : List ℕ). before text (run_bytes s.bus s.place l)) (whole-is r) ∙ sym (h.same ((s1.pending.items ++ rest) ++ r))) refl (holds_err stop s1 text1 rest pending.items (IsPart-append s1.pending.items rest h.session.part part) held)
+    stops_by stop text1 s1.bus (λ (r : List ℕ). before text1 (run_bytes s1.bus s1.place ((s1.pending.items ++ rest) ++ r))) (λ (r : List ℕ). before text (run_bytes s.bus s.place (come ++ r))) (λ r. r) (λ r. ap (λ (l : List ℕ). before text (run_bytes s.bus s.place l)) (whole-is r) ∙ sym (h.same ((s1.pending.items ++ rest) ++ r))) (holds_err stop s1 text1 rest pending.items h.session.sound (IsPart-append s1.pending.items rest h.session.part part) held)
 
 -- ---- the first LF
 
@@ -138,20 +138,20 @@ part_from_places (b ∷ bs) h = (not_true (eqb b 10) (h 0 (omega arith)), part_f
 
 -- ---- the last line
 
-pub finish_none : (s : Session) (text : List ℕ) → s.pending.items ≡ [] → before text (run_bytes s.bus s.place s.pending.items) ≡ before text (ended Finished)
-finish_none s text none = ap (λ (l : List ℕ). before text (run_bytes s.bus s.place l)) none ∙ ap (before text) (no_line (state_of s.bus) s.place.count s.place.used)
+pub finish_none : (s : Session) (text : List ℕ) → IsSession s → s.pending.items ≡ [] → Finishes (Ok tt) s text s.bus text
+finish_none s text h none = (h.sound, ap (λ (l : List ℕ). before text (run_bytes s.bus s.place l)) none ∙ ap (before text) (no_line (state_of s.bus) s.place.count s.place.used))
 
-pub finishes : (result : Result Unit Stop) (seen : List ℕ) (s : Session) (text : List ℕ) (b : Bus) (p : Place) (text' : List ℕ) → seen ≡ s.pending.items → IsPart s.pending.items → 0 < length s.pending.items → TakesLine result (record { text = seen; size = length seen + 0 }) s.bus s.place text b p text' → Finishes result s text text'
+pub finishes : (result : Result Unit Stop) (seen : List ℕ) (s : Session) (text : List ℕ) (b : Parts) (p : Place) (text' : List ℕ) → seen ≡ s.pending.items → IsPart s.pending.items → 0 < length s.pending.items → TakesLine result (record { text = seen; size = length seen + 0 }) s.bus s.place text b p text' → Finishes result s text b text'
 finishes (Ok u) seen s text b p text' e part some h =
     let line = lines_of-last s.pending.items part some in
     let last = subst (λ (l : List ℕ). SameRun text (λ ls. run_lines s.bus s.place ((record { text = l; size = length l + 0 }) ∷ ls)) text' (run_lines b p)) e h.3 in
     let sized : length s.pending.items + 0 ≡ length s.pending.items = omega arith in
-    ap (λ (ls : List RawLine). before text (run_lines s.bus s.place ls)) (line ∙ ap (λ (n : ℕ). record { text = s.pending.items; size = n } ∷ []) (sym sized)) ∙ sym (last []) ∙ ap (before text') (no_line (state_of b) p.count p.used)
+    (h.0, ap (λ (ls : List RawLine). before text (run_lines s.bus s.place ls)) (line ∙ ap (λ (n : ℕ). record { text = s.pending.items; size = n } ∷ []) (sym sized)) ∙ sym (last []) ∙ ap (before text') (no_line (state_of b) p.count p.used))
 finishes (Err stop) seen s text b p text' e part some h =
     let line = lines_of-last s.pending.items part some in
-    let stopped = subst (λ (l : List ℕ). Stops stop text (λ ls. before text (run_lines s.bus s.place ((record { text = l; size = length l + 0 }) ∷ ls)))) e h.1 in
+    let stopped = subst (λ (l : List ℕ). Stops stop text' b (λ ls. before text (run_lines s.bus s.place ((record { text = l; size = length l + 0 }) ∷ ls)))) e h in
     let sized : length s.pending.items + 0 ≡ length s.pending.items = omega arith in
-    stops_by stop text text' (λ ls. before text (run_lines s.bus s.place ((record { text = s.pending.items; size = length s.pending.items + 0 }) ∷ ls))) (λ (v : Unit {0}). before text (run_bytes s.bus s.place s.pending.items)) (λ v. []) (λ v. ap (λ (ls : List RawLine). before text (run_lines s.bus s.place ls)) (line ∙ ap (λ (n : ℕ). record { text = s.pending.items; size = n } ∷ []) (sym sized))) h.0 stopped
+    stops_by stop text' b (λ ls. before text (run_lines s.bus s.place ((record { text = s.pending.items; size = length s.pending.items + 0 }) ∷ ls))) (λ (v : Unit {0}). before text (run_bytes s.bus s.place s.pending.items)) (λ v. []) (λ v. ap (λ (ls : List RawLine). before text (run_lines s.bus s.place ls)) (line ∙ ap (λ (n : ℕ). record { text = s.pending.items; size = n } ∷ []) (sym sized))) stopped
 
 no_items : (xs : List ℕ) → length xs ≡ 0 → xs ≡ []
 no_items [] e = refl

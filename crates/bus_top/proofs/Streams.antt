@@ -1,23 +1,30 @@
 -- Runs over lines that come one after the other.
-use Rattle.std.proofs.Common.{◌≡◌, ℕ, ◌+◌, ◌≤◌, Bool, true, false, List, [], ◌∷◌, ◌++◌, Some, None, length, refl, sym, ap, ◌∙◌, append-nil, arith}
+use Rattle.std.proofs.Common.{◌≡◌, ℕ, ◌+◌, ◌<◌, ◌≤◌, Bool, true, false, List, [], ◌∷◌, ◌++◌, Some, None, Result, Ok, Err, length, take, drop, refl, sym, ap, ◌∙◌, subst, append_assoc, append-nil, arith}
 use Rattle.std.specs.Prelude.{nat_le, nat_lt, ◌||◌}
 use Rattle.std.specs.Io.{StartsWith}
 use Rattle.std.proofs.lemmas.Bool.{leb-false, ltb-false}
-use Rattle.std.proofs.lemmas.List.{take_at}
-use Rattle.bus_types.specs.Script.{State}
-use Rattle.trace_script.specs.Run.{RawLine, most_lines, longest_line, longest_input, is_too_long, Ending, before, ended, played, text_step}
-use Rattle.trace_script.specs.Run.Ending.{Finished, BadAt, TooLongAt}
+use Rattle.std.proofs.lemmas.List.{take_at, take-append-drop}
+use Rattle.std.proofs.lemmas.Option.{same_Some}
+use Rattle.trace_script.specs.Input.{RawLine, IsPart, lines_of, most_lines, longest_line, longest_input, is_too_long}
+use Rattle.trace_script.proofs.LineLaws.{is_long_part, long_part}
+use Rattle.history_core.specs.Script.{State}
+use Rattle.history_core.specs.Run.{Ending, Played, before, ended, played, text_step}
+use Rattle.history_core.specs.Run.Ending.{Finished, BadAt, TooLongAt}
+use Rattle.history_core.specs.Bus.{Parts, state_of, IsSound}
 use Rattle.bus_top.specs.declared.session.Place.{Place}
 use Rattle.bus_top.specs.Session.{is_long}
-use Rattle.trace_script.proofs.LineLaws.{before-before}
+
+-- text before text
+pub before-before : (a b : List ℕ) (p : Played) → before a (before b p) ≡ before (a ++ b) p
+before-before a b p = ap (λ (t : List ℕ). record p { text = t }) (sym (append_assoc a b p.text))
 
 -- a line that is too long stops a run
-pub long_line : (s : State) (count used : ℕ) (raw : RawLine) (ls : List RawLine) → is_too_long count used raw ≡ true → played s count used (raw ∷ ls) ≡ ended (TooLongAt (count + 1))
+pub long_line : (s : State) (count used : ℕ) (raw : RawLine) (ls : List RawLine) → is_too_long count used raw ≡ true → played s count used (raw ∷ ls) ≡ ended (TooLongAt (count + 1)) s
 unfolding played
 long_line s count used raw ls h = rw h refl
 
 -- so does a line outside the grammar or against its rules
-pub bad_line : (s : State) (count used : ℕ) (raw : RawLine) (ls : List RawLine) → is_too_long count used raw ≡ false → text_step s raw.text ≡ None → played s count used (raw ∷ ls) ≡ ended (BadAt (count + 1))
+pub bad_line : (s : State) (count used : ℕ) (raw : RawLine) (ls : List RawLine) → is_too_long count used raw ≡ false → text_step s raw.text ≡ None → played s count used (raw ∷ ls) ≡ ended (BadAt (count + 1)) s
 unfolding played
 bad_line s count used raw ls h e = rw (h, e) refl
 
@@ -26,20 +33,31 @@ pub good_line : (s next : State) (count used : ℕ) (raw : RawLine) (printed : L
 unfolding played
 good_line s next count used raw printed ls h e = rw (h, e) refl
 
+-- a part of a line that is too long already stops a run, however it goes on
+pub part_stops : (s : State) (count used : ℕ) (part rest : List ℕ) → IsPart part → 0 < length part → is_long_part count used part ≡ true → played s count used (lines_of (part ++ rest)) ≡ ended (TooLongAt (count + 1)) s
+part_stops s count used part rest p some long =
+    let b = long_part count used part rest p some long in
+    ap (played s count used) b.parts ∙ long_line s count used b.first b.others b.long
+
 -- no line is at its end
-pub no_line : (s : State) (count used : ℕ) → played s count used [] ≡ ended Finished
+pub no_line : (s : State) (count used : ℕ) → played s count used [] ≡ ended Finished s
 unfolding played
 no_line s count used = refl
 
 -- a text before an end
-pub before-ended : (text : List ℕ) (ending : Ending) → before text (ended ending) ≡ record { text = text; ending = ending }
-before-ended text ending = ap (λ (t : List ℕ). record { text = t; ending = ending }) (append-nil text)
+pub before-ended : (text : List ℕ) (ending : Ending) (s : State) → before text (ended ending s) ≡ record { text = text; ending = ending; state = s }
+before-ended text ending s = ap (λ (t : List ℕ). record { text = t; ending = ending; state = s }) (append-nil text)
 
-pub stops_long : (text : List ℕ) (s : State) (count used : ℕ) (raw : RawLine) → is_too_long count used raw ≡ true → (ls : List RawLine) → before text (played s count used (raw ∷ ls)) ≡ record { text = text; ending = TooLongAt (count + 1) }
-stops_long text s count used raw h ls = ap (before text) (long_line s count used raw ls h) ∙ before-ended text (TooLongAt (count + 1))
+pub stops_long : (text : List ℕ) (s : State) (count used : ℕ) (raw : RawLine) → is_too_long count used raw ≡ true → (ls : List RawLine) → before text (played s count used (raw ∷ ls)) ≡ record { text = text; ending = TooLongAt (count + 1); state = s }
+stops_long text s count used raw h ls = ap (before text) (long_line s count used raw ls h) ∙ before-ended text (TooLongAt (count + 1)) s
 
-pub stops_bad : (text : List ℕ) (s : State) (count used : ℕ) (raw : RawLine) → is_too_long count used raw ≡ false → text_step s raw.text ≡ None → (ls : List RawLine) → before text (played s count used (raw ∷ ls)) ≡ record { text = text; ending = BadAt (count + 1) }
-stops_bad text s count used raw h e ls = ap (before text) (bad_line s count used raw ls h e) ∙ before-ended text (BadAt (count + 1))
+-- a line outside the grammar or against its rules stops a run, and leaves the bus and the text as they were
+pub bad_stops : (text text' : List ℕ) (b b' : Parts) (count used : ℕ) (raw : RawLine) → IsSound b → is_too_long count used raw ≡ false → text_step (state_of b) raw.text ≡ None → b' ≡ b → Some text' ≡ Some text → IsSound b' × ((ls : List RawLine) → before text (played (state_of b) count used (raw ∷ ls)) ≡ record { text = text'; ending = BadAt (count + 1); state = state_of b' })
+bad_stops text text' b b' count used raw sound h e same written = (
+  subst IsSound (sym same) sound,
+  λ ls. ap (before text) (bad_line (state_of b) count used raw ls h e) ∙ before-ended text (BadAt (count + 1)) (state_of b)
+      ∙ (λ i. record { text = sym (same_Some text' text written) i; ending = BadAt (count + 1); state = state_of (sym same i) }),
+)
 
 pub goes_on : (text more printed : List ℕ) (s next : State) (count used : ℕ) (raw : RawLine) → more ≡ text ++ printed → is_too_long count used raw ≡ false → text_step s raw.text ≡ Some (next, printed) → (ls : List RawLine) → before more (played next (count + 1) (used + raw.size) ls) ≡ before text (played s count used (raw ∷ ls))
 goes_on text more printed s next count used raw m h e ls =
@@ -50,6 +68,14 @@ goes_on text more printed s next count used raw m h e ls =
 -- a text begins with itself, whatever stands behind it
 pub starts : (text more : List ℕ) → StartsWith (text ++ more) text
 starts text more = take_at text more (length text) refl
+
+-- a good line of whose text a front was written
+pub breaks_line : (text more printed : List ℕ) (n : ℕ) (s next : State) (count used : ℕ) (raw : RawLine) → more ≡ text ++ take n printed → is_too_long count used raw ≡ false → text_step s raw.text ≡ Some (next, printed) → (ls : List RawLine) → StartsWith (before text (played s count used (raw ∷ ls))).text more
+breaks_line text more printed n s next count used raw m h e ls =
+    let rest : Played = played next (count + 1) (used + raw.size) ls in
+    let parts : text ++ (printed ++ rest.text) ≡ more ++ (drop n printed ++ rest.text) =
+    ap (λ (l : List ℕ). text ++ (l ++ rest.text)) (sym (take-append-drop n printed)) ∙ ap (λ (l : List ℕ). text ++ l) (append_assoc (take n printed) (drop n printed) rest.text) ∙ sym (append_assoc text (take n printed) (drop n printed ++ rest.text)) ∙ ap (λ (l : List ℕ). l ++ (drop n printed ++ rest.text)) (sym m) in
+    subst (λ (p : Played). StartsWith (before text p).text more) (sym (good_line s next count used raw printed ls h e)) (subst (λ (l : List ℕ). StartsWith l more) (sym parts) (starts more (drop n printed ++ rest.text)))
 
 none_holds : (a b c : Bool) → (a || b || c) ≡ false → (a ≡ false) × (b ≡ false) × (c ≡ false)
 none_holds true b c h = absurd cc

@@ -4,19 +4,20 @@ use Rattle.std.specs.Io.{StartsWith}
 use Rattle.std.specs.Io.KnownBytes.{Appends, Consumes, Keeps, IsAtEnd}
 use Rattle.std.proofs.KnownBytes.{Appends-nil, Appends-trans, Consumes-nil, Consumes-trans, Consumes-kept, starts_with_rest}
 use Rattle.std.proofs.lemmas.List.{take-append-drop, take_at, take_all}
-use Rattle.bus_types.specs.Script.{start}
-use Rattle.trace_script.specs.Run.{whole_part, Played, Ending, before, played, lines_of, script}
-use Rattle.trace_script.specs.Run.Ending.{Finished, BadAt, TooLongAt}
-use Rattle.trace_script.proofs.LineLaws.{before-before, whole_part-append, IsWhole-append}
+use Rattle.trace_script.specs.Input.{lines_of, whole_part}
+use Rattle.trace_script.proofs.LineLaws.{whole_part-append, IsWhole-append}
+use Rattle.history_core.specs.Script.{State, start}
+use Rattle.history_core.specs.Run.{Played, Ending, before, played, script}
+use Rattle.history_core.specs.Run.Ending.{Finished, BadAt, TooLongAt}
+use Rattle.history_core.specs.Bus.{Parts, state_of, IsSound}
 use Rattle.bus_top.specs.declared.session.Session.{Session}
 use Rattle.bus_top.specs.declared.session.Stop.{Stop}
 use Rattle.bus_top.specs.declared.session.Stop.TheVariants.{BadLine, TooLong, NoMemory}
-use Rattle.bus_top.specs.Bus.{state_of}
 use Rattle.bus_top.specs.Session.{run_bytes, IsSession, Takes, Finishes, Reached}
 use Rattle.bus_top.specs.declared.status.Status.{Status}
 use Rattle.bus_top.specs.declared.status.Status.TheVariants.{Done, Usage, ReadFault, WriteFault, BadLine as StatusBadLine, NoMemory as StatusNoMemory, TooLong as StatusTooLong}
-use Rattle.bus_top.specs.Trace.{EndsAt, StopsReading, StopsWriting, Ended, Ends, EndsWith, BreaksOff, stop_status}
-use Rattle.bus_top.proofs.Streams.{before-ended, no_line, starts}
+use Rattle.bus_top.specs.Trace.{EndsAt, StopsReading, StopsWriting, LeavesBus, LeavesFrontBus, HandsBack, kept_by, Ended, EndedWith, Ends, EndsWith, BreaksOff, stop_status}
+use Rattle.bus_top.proofs.Streams.{before-before, before-ended, no_line, starts}
 
 -- before the first read
 pub reached_none : (input output : Option (List ℕ)) (s : Session) → state_of s.bus ≡ start → s.place ≡ record { count = 0; used = 0 } → s.pending.items ≡ [] → IsSession s → Reached input input output output s
@@ -63,12 +64,14 @@ piece_script bytes left1 left2 output written1 s1 piece h c =
     (all.0, ap script (all.1 ∙ regroup) ∙ sym (h.same ((s1.pending.items ++ piece) ++ all.0)))
 
 -- a run that stopped in a piece, whose text was written
-pub stopped_at : (ending : Ending) (input left1 left2 output written1 written2 : Option (List ℕ)) (s1 : Session) (piece text2 : List ℕ) → Reached input left1 output written1 s1 → Consumes left1 left2 piece → Appends written1 written2 text2 → ((rest : List ℕ) → run_bytes s1.bus s1.place ((s1.pending.items ++ piece) ++ rest) ≡ record { text = text2; ending = ending }) → EndsAt ending input output written2
-stopped_at ending None left1 left2 output written1 written2 s1 piece text2 h c a stop = tt
-stopped_at ending (Some bytes) left1 left2 output written1 written2 s1 piece text2 h c a stop =
+stopped_at : (ending : Ending) (input left1 left2 output written1 written2 : Option (List ℕ)) (s1 : Session) (piece text2 : List ℕ) (b : Parts) → Reached input left1 output written1 s1 → Consumes left1 left2 piece → Appends written1 written2 text2 → IsSound b → ((rest : List ℕ) → run_bytes s1.bus s1.place ((s1.pending.items ++ piece) ++ rest) ≡ record { text = text2; ending = ending; state = state_of b }) → EndsAt ending input output written2 × LeavesBus input (Some b)
+stopped_at ending None left1 left2 output written1 written2 s1 piece text2 b h c a sound stop = (tt, record { bus = b; is = refl; sound = sound; state = tt })
+stopped_at ending (Some bytes) left1 left2 output written1 written2 s1 piece text2 b h c a sound stop =
     let p = piece_script bytes left1 left2 output written1 s1 piece h c in
-    let played-is = p.1 ∙ ap (before h.text) (stop p.0) in
-    (ap (λ (p : Played). p.ending) played-is, subst (Appends output written2) (sym (ap (λ (p : Played). p.text) played-is)) (Appends-trans output written1 written2 h.text text2 h.wrote a))
+    let played-is = p.1 ∙ ap (before h.text) (stop p.0) in (
+      (ap (λ (p : Played). p.ending) played-is, subst (Appends output written2) (sym (ap (λ (p : Played). p.text) played-is)) (Appends-trans output written1 written2 h.text text2 h.wrote a)),
+      record { bus = b; is = refl; sound = sound; state = ap (λ (p : Played). p.state) played-is },
+    )
 
 -- a text and a front of what is printed behind it are a front of all that is printed
 pub broken : (text text2 more part full : List ℕ) (n : ℕ) → part ≡ take n text2 → full ≡ text ++ (text2 ++ more) → text ++ part ≡ take (length (text ++ part)) full
@@ -97,8 +100,8 @@ takes_start (Ok u) come s1 s2 text2 t rest =
     let regroup : come ++ rest ≡ t.whole ++ (s2.pending.items ++ rest) = ap (λ (l : List ℕ). l ++ rest) (t.parts ∙ ap (λ (l : List ℕ). t.whole ++ l) (append-nil s2.pending.items)) ∙ append_assoc t.whole s2.pending.items rest in
     let run-is : run_bytes s1.bus s1.place (come ++ rest) ≡ before text2 (run_bytes s2.bus s2.place (s2.pending.items ++ rest)) = ap (run_bytes s1.bus s1.place) regroup ∙ sym (t.same (s2.pending.items ++ rest)) in
     subst (λ (p : Played). StartsWith p.text text2) (sym run-is) (starts text2 _)
-takes_start (Err (BadLine n)) come s1 s2 text2 t rest = starts_itself text2 _ (ap (λ (p : Played). p.text) (t rest))
-takes_start (Err (TooLong n)) come s1 s2 text2 t rest = starts_itself text2 _ (ap (λ (p : Played). p.text) (t rest))
+takes_start (Err (BadLine n)) come s1 s2 text2 t rest = starts_itself text2 _ (ap (λ (p : Played). p.text) (t.1 rest))
+takes_start (Err (TooLong n)) come s1 s2 text2 t rest = starts_itself text2 _ (ap (λ (p : Played). p.text) (t.1 rest))
 takes_start (Err NoMemory) come s1 s2 text2 t rest = t rest
 
 -- a run that stopped writing the text of a piece
@@ -109,39 +112,51 @@ stopped_writing (Some bytes) left1 left2 output written1 written2 result s1 s2 p
     breaks_off bytes output written1 written2 h.text text2 (take n text2) _ n h.wrote a refl p.1 (takes_start result (s1.pending.items ++ piece) s1 s2 text2 t p.0)
 
 -- a run that a piece stopped, whose text was written
-pub stopped : (stop : Stop) (input left1 left2 output written1 written2 : Option (List ℕ)) (s1 s2 : Session) (piece text2 : List ℕ) → Reached input left1 output written1 s1 → Consumes left1 left2 piece → Appends written1 written2 text2 → Takes (Err stop) (s1.pending.items ++ piece) s1 [] s2 text2 → Ended (stop_status stop) input left2 output written2
-stopped (BadLine n) input left1 left2 output written1 written2 s1 s2 piece text2 h c a t = stopped_at (BadAt n) input left1 left2 output written1 written2 s1 piece text2 h c a t
-stopped (TooLong n) input left1 left2 output written1 written2 s1 s2 piece text2 h c a t = stopped_at (TooLongAt n) input left1 left2 output written1 written2 s1 piece text2 h c a t
+pub stopped : (stop : Stop) (input left1 left2 output written1 written2 : Option (List ℕ)) (s1 s2 : Session) (piece text2 : List ℕ) → Reached input left1 output written1 s1 → Consumes left1 left2 piece → Appends written1 written2 text2 → Takes (Err stop) (s1.pending.items ++ piece) s1 [] s2 text2 → EndedWith (stop_status stop) input left2 output written2 s2.bus
+stopped (BadLine n) input left1 left2 output written1 written2 s1 s2 piece text2 h c a t =
+    let e = stopped_at (BadAt n) input left1 left2 output written1 written2 s1 piece text2 s2.bus h c a t.0 t.1 in
+    record { ended = e.0; back = e.1 }
+stopped (TooLong n) input left1 left2 output written1 written2 s1 s2 piece text2 h c a t =
+    let e = stopped_at (TooLongAt n) input left1 left2 output written1 written2 s1 piece text2 s2.bus h c a t.0 t.1 in
+    record { ended = e.0; back = e.1 }
 stopped NoMemory input left1 left2 output written1 written2 s1 s2 piece text2 h c a t =
-    stopped_writing input left1 left2 output written1 written2 (Err NoMemory) s1 s2 piece text2 (length text2) h c (subst (Appends written1 written2) (sym (take_all (length text2) text2 (omega arith))) a) t
+    let wrote = subst (Appends written1 written2) (sym (take_all (length text2) text2 (omega arith))) a in
+    record { ended = stopped_writing input left1 left2 output written1 written2 (Err NoMemory) s1 s2 piece text2 (length text2) h c wrote t; back = refl }
 
 -- ---- the end of the input
 
-finish_is : (s : Session) (text : List ℕ) → Finishes (Ok tt) s [] text → run_bytes s.bus s.place s.pending.items ≡ record { text = text; ending = Finished }
-finish_is s text f = f ∙ before-ended text Finished
+finish_is : (s : Session) (b : Parts) (text : List ℕ) → Finishes (Ok tt) s [] b text → run_bytes s.bus s.place s.pending.items ≡ record { text = text; ending = Finished; state = state_of b }
+finish_is s b text f = f.1 ∙ before-ended text Finished (state_of b)
 
-finishes_start : (result : Result Unit Stop) (s : Session) (text : List ℕ) → Finishes result s [] text → StartsWith (run_bytes s.bus s.place s.pending.items).text text
-finishes_start (Ok u) s text f = starts_itself text _ (ap (λ (p : Played). p.text) (finish_is s text f))
-finishes_start (Err (BadLine n)) s text f = starts_itself text _ (ap (λ (p : Played). p.text) (f tt))
-finishes_start (Err (TooLong n)) s text f = starts_itself text _ (ap (λ (p : Played). p.text) (f tt))
-finishes_start (Err NoMemory) s text f = f tt
+finishes_start : (result : Result Unit Stop) (s : Session) (b : Parts) (text : List ℕ) → Finishes result s [] b text → StartsWith (run_bytes s.bus s.place s.pending.items).text text
+finishes_start (Ok u) s b text f = starts_itself text _ (ap (λ (p : Played). p.text) (finish_is s b text f))
+finishes_start (Err (BadLine n)) s b text f = starts_itself text _ (ap (λ (p : Played). p.text) (f.1 tt))
+finishes_start (Err (TooLong n)) s b text f = starts_itself text _ (ap (λ (p : Played). p.text) (f.1 tt))
+finishes_start (Err NoMemory) s b text f = f tt
 
 -- the end broke off while it was written
-pub end_broken : (result : Result Unit Stop) (written written' : Option (List ℕ)) (s : Session) (text : List ℕ) (n : ℕ) → Finishes result s [] text → Appends written written' (take n text) → BreaksOff written written' s
-end_broken result written written' s text n f a =
+pub end_broken : (result : Result Unit Stop) (written written' : Option (List ℕ)) (s : Session) (b : Parts) (text : List ℕ) (n : ℕ) → Finishes result s [] b text → Appends written written' (take n text) → BreaksOff written written' s
+end_broken result written written' s b text n f a =
     let full : List ℕ = (run_bytes s.bus s.place s.pending.items).text in
-    let front = broken [] text (drop (length text) full) (take n text) full n refl (starts_with_rest full text (finishes_start result s text f)) in
+    let front = broken [] text (drop (length text) full) (take n text) full n refl (starts_with_rest full text (finishes_start result s b text f)) in
     (length (take n text), subst (Appends written written') front a)
 
-pub end_done : (written written' : Option (List ℕ)) (s : Session) (text : List ℕ) → Finishes (Ok tt) s [] text → Appends written written' text → EndsWith Finished written written' s
-end_done written written' s text f a =
-    let run-is = finish_is s text f in
-    (ap (λ (p : Played). p.ending) run-is, subst (Appends written written') (sym (ap (λ (p : Played). p.text) run-is)) a)
+-- the last line ends the run, and its text was written
+end_with : (ending : Ending) (written written' : Option (List ℕ)) (s : Session) (b : Parts) (text : List ℕ) → IsSound b → run_bytes s.bus s.place s.pending.items ≡ record { text = text; ending = ending; state = state_of b } → Appends written written' text → EndsWith ending written written' s b
+end_with ending written written' s b text sound run-is a = record {
+  ends = ap (λ (p : Played). p.ending) run-is;
+  wrote = subst (Appends written written') (sym (ap (λ (p : Played). p.text) run-is)) a;
+  sound = sound;
+  state = ap (λ (p : Played). p.state) run-is;
+}
 
-pub end_stopped : (stop : Stop) (written written' : Option (List ℕ)) (s : Session) (text : List ℕ) → Finishes (Err stop) s [] text → Appends written written' text → Ends (stop_status stop) written written' s
-end_stopped (BadLine n) written written' s text f a = (ap (λ (p : Played). p.ending) (f tt), subst (Appends written written') (sym (ap (λ (p : Played). p.text) (f tt))) a)
-end_stopped (TooLong n) written written' s text f a = (ap (λ (p : Played). p.ending) (f tt), subst (Appends written written') (sym (ap (λ (p : Played). p.text) (f tt))) a)
-end_stopped NoMemory written written' s text f a = end_broken (Err NoMemory) written written' s text (length text) f (subst (Appends written written') (sym (take_all (length text) text (omega arith))) a)
+pub end_done : (written written' : Option (List ℕ)) (s : Session) (b : Parts) (text : List ℕ) → Finishes (Ok tt) s [] b text → Appends written written' text → EndsWith Finished written written' s b
+end_done written written' s b text f a = end_with Finished written written' s b text f.0 (finish_is s b text f) a
+
+pub end_stopped : (stop : Stop) (written written' : Option (List ℕ)) (s : Session) (b : Parts) (text : List ℕ) → Finishes (Err stop) s [] b text → Appends written written' text → Ends (stop_status stop) written written' s b
+end_stopped (BadLine n) written written' s b text f a = end_with (BadAt n) written written' s b text f.0 (f.1 tt) a
+end_stopped (TooLong n) written written' s b text f a = end_with (TooLongAt n) written written' s b text f.0 (f.1 tt) a
+end_stopped NoMemory written written' s b text f a = end_broken (Err NoMemory) written written' s b text (length text) f (subst (Appends written written') (sym (take_all (length text) text (omega arith))) a)
 
 -- the script in a told input of which everything was read
 pub end_script : (bytes : List ℕ) (left1 left2 output written1 : Option (List ℕ)) (s1 : Session) → (h : Reached (Some bytes) left1 output written1 s1) → Consumes left1 left2 [] → IsAtEnd left2 → script bytes ≡ before h.text (run_bytes s1.bus s1.place s1.pending.items)
@@ -150,11 +165,13 @@ end_script bytes left1 (Some rest) output written1 s1 h c e =
     let all = Consumes-trans (Some bytes) left1 (Some rest) (h.whole ++ s1.pending.items) [] h.read c in
     ap script (all ∙ (λ i. append-nil (h.whole ++ s1.pending.items) i ++ e i) ∙ append-nil (h.whole ++ s1.pending.items)) ∙ sym (h.same s1.pending.items)
 
-end_at : (ending : Ending) (input left1 left2 output written1 written2 : Option (List ℕ)) (s1 : Session) → Reached input left1 output written1 s1 → Consumes left1 left2 [] → IsAtEnd left2 → EndsWith ending written1 written2 s1 → EndsAt ending input output written2
-end_at ending None left1 left2 output written1 written2 s1 h c e w = tt
-end_at ending (Some bytes) left1 left2 output written1 written2 s1 h c e w =
-    let script-is = end_script bytes left1 left2 output written1 s1 h c e in
-    (ap (λ (p : Played). p.ending) script-is ∙ w.0, subst (Appends output written2) (sym (ap (λ (p : Played). p.text) script-is)) (Appends-trans output written1 written2 h.text _ h.wrote w.1))
+end_at : (ending : Ending) (input left1 left2 output written1 written2 : Option (List ℕ)) (s1 : Session) (b : Parts) → Reached input left1 output written1 s1 → Consumes left1 left2 [] → IsAtEnd left2 → EndsWith ending written1 written2 s1 b → EndsAt ending input output written2 × LeavesBus input (Some b)
+end_at ending None left1 left2 output written1 written2 s1 b h c e w = (tt, record { bus = b; is = refl; sound = w.sound; state = tt })
+end_at ending (Some bytes) left1 left2 output written1 written2 s1 b h c e w =
+    let script-is = end_script bytes left1 left2 output written1 s1 h c e in (
+      (ap (λ (p : Played). p.ending) script-is ∙ w.ends, subst (Appends output written2) (sym (ap (λ (p : Played). p.text) script-is)) (Appends-trans output written1 written2 h.text _ h.wrote w.wrote)),
+      record { bus = b; is = refl; sound = w.sound; state = ap (λ (p : Played). p.state) script-is ∙ w.state },
+    )
 
 end_breaks : (input left1 left2 output written1 written2 : Option (List ℕ)) (s1 : Session) → Reached input left1 output written1 s1 → Consumes left1 left2 [] → IsAtEnd left2 → BreaksOff written1 written2 s1 → StopsWriting input output written2
 end_breaks None left1 left2 output written1 written2 s1 h c e w = tt
@@ -163,21 +180,31 @@ end_breaks (Some bytes) left1 left2 output written1 written2 s1 h c e w =
     breaks_off bytes output written1 written2 h.text run.text (take w.0 run.text) run w.0 h.wrote w.1 refl (end_script bytes left1 left2 output written1 s1 h c e) (starts_itself run.text run.text refl)
 
 -- what the end of the input says of the whole script
-pub ended_by : (status : Status) (input left1 left2 output written1 written2 : Option (List ℕ)) (s1 : Session) → Reached input left1 output written1 s1 → Consumes left1 left2 [] → IsAtEnd left2 → Ends status written1 written2 s1 → Ended status input left2 output written2
-ended_by Done input left1 left2 output written1 written2 s1 h c e w = (end_at Finished input left1 left2 output written1 written2 s1 h c e w, e)
-ended_by Usage input left1 left2 output written1 written2 s1 h c e w = absurd w
-ended_by (StatusBadLine line) input left1 left2 output written1 written2 s1 h c e w = end_at (BadAt line) input left1 left2 output written1 written2 s1 h c e w
-ended_by ReadFault input left1 left2 output written1 written2 s1 h c e w = absurd w
-ended_by WriteFault input left1 left2 output written1 written2 s1 h c e w = end_breaks input left1 left2 output written1 written2 s1 h c e w
-ended_by StatusNoMemory input left1 left2 output written1 written2 s1 h c e w = end_breaks input left1 left2 output written1 written2 s1 h c e w
-ended_by (StatusTooLong line) input left1 left2 output written1 written2 s1 h c e w = end_at (TooLongAt line) input left1 left2 output written1 written2 s1 h c e w
+pub ended_by : (status : Status) (input left1 left2 output written1 written2 : Option (List ℕ)) (s1 : Session) (b : Parts) → Reached input left1 output written1 s1 → Consumes left1 left2 [] → IsAtEnd left2 → Ends status written1 written2 s1 b → EndedWith status input left2 output written2 b
+ended_by Done input left1 left2 output written1 written2 s1 b h c e w =
+    let all = end_at Finished input left1 left2 output written1 written2 s1 b h c e w in
+    record { ended = (all.0, e); back = all.1 }
+ended_by Usage input left1 left2 output written1 written2 s1 b h c e w = absurd w
+ended_by (StatusBadLine line) input left1 left2 output written1 written2 s1 b h c e w =
+    let all = end_at (BadAt line) input left1 left2 output written1 written2 s1 b h c e w in
+    record { ended = all.0; back = all.1 }
+ended_by ReadFault input left1 left2 output written1 written2 s1 b h c e w = absurd w
+ended_by WriteFault input left1 left2 output written1 written2 s1 b h c e w = record { ended = end_breaks input left1 left2 output written1 written2 s1 h c e w; back = refl }
+ended_by StatusNoMemory input left1 left2 output written1 written2 s1 b h c e w = record { ended = end_breaks input left1 left2 output written1 written2 s1 h c e w; back = refl }
+ended_by (StatusTooLong line) input left1 left2 output written1 written2 s1 b h c e w =
+    let all = end_at (TooLongAt line) input left1 left2 output written1 written2 s1 b h c e w in
+    record { ended = all.0; back = all.1 }
 
 -- a run whose input failed
-pub stopped_reading : (input left1 left2 output written1 : Option (List ℕ)) (s1 : Session) → Reached input left1 output written1 s1 → Keeps left1 left2 → StopsReading input left2 output written1
-stopped_reading None left1 left2 output written1 s1 h k = tt
+pub stopped_reading : (input left1 left2 output written1 : Option (List ℕ)) (s1 : Session) → Reached input left1 output written1 s1 → Keeps left1 left2 → EndedWith ReadFault input left2 output written1 s1.bus
+stopped_reading None left1 left2 output written1 s1 h k = record { ended = tt; back = record { bus = s1.bus; is = refl; sound = h.session.sound; state = tt } }
 stopped_reading (Some bytes) left1 left2 output written1 s1 h k =
     let front : List ℕ = h.whole ++ s1.pending.items in
+    let read = Consumes-kept (Some bytes) left1 left2 front h.read k in
     let whole-is : whole_part front ≡ h.whole = whole_part-append h.whole s1.pending.items h.lines h.session.part in
-    let played-is : script (whole_part front) ≡ record { text = h.text; ending = Finished } =
-    ap script (whole-is ∙ sym (append-nil h.whole)) ∙ sym (h.same []) ∙ ap (before h.text) (no_line (state_of s1.bus) s1.place.count s1.place.used) ∙ before-ended h.text Finished in
-    (front, Consumes-kept (Some bytes) left1 left2 front h.read k, ap (λ (p : Played). p.ending) played-is, subst (Appends output written1) (sym (ap (λ (p : Played). p.text) played-is)) h.wrote)
+    let played-is : script (whole_part front) ≡ record { text = h.text; ending = Finished; state = state_of s1.bus } =
+    ap script (whole-is ∙ sym (append-nil h.whole)) ∙ sym (h.same []) ∙ ap (before h.text) (no_line (state_of s1.bus) s1.place.count s1.place.used) ∙ before-ended h.text Finished (state_of s1.bus) in
+    record {
+      ended = (front, read, ap (λ (p : Played). p.ending) played-is, subst (Appends output written1) (sym (ap (λ (p : Played). p.text) played-is)) h.wrote);
+      back = record { bus = s1.bus; is = refl; sound = h.session.sound; state = (front, read, ap (λ (p : Played). p.state) played-is) };
+    }

@@ -2,35 +2,31 @@
 use Rattle.std.specs.Prelude.{◌≡◌, ℕ, ◌+◌, ◌≤◌, ◌<◌, Bool, true, ◌||◌, nat_lt, nat_le, List, [], ◌∷◌, ◌++◌, length, Option, Result, Ok, Err}
 use Rattle.std.specs.Io.{StartsWith}
 use Rattle.std.specs.Io.KnownBytes.{Appends, Consumes}
-use Rattle.trace_script.specs.Run.{RawLine, IsPart, IsWhole, Played, before, ended, played, lines_of, most_lines, longest_line, longest_input, script}
-use Rattle.trace_script.specs.Run.Ending.{Finished, BadAt, TooLongAt}
-use Rattle.bus_top.specs.declared.bus.Bus.{Bus}
+use Rattle.trace_script.specs.Input.{RawLine, IsPart, IsWhole, lines_of, most_lines, longest_line, longest_input}
+use Rattle.history_core.specs.Run.{Played, before, ended, played, script}
+use Rattle.history_core.specs.Run.Ending.{Finished, BadAt, TooLongAt}
+use Rattle.history_core.specs.Bus.{Parts, state_of, IsSound}
 use Rattle.bus_top.specs.declared.session.Place.{Place}
 use Rattle.bus_top.specs.declared.session.Session.{Session}
 use Rattle.bus_top.specs.declared.session.Stop.{Stop}
 use Rattle.bus_top.specs.declared.session.Stop.TheVariants.{BadLine, TooLong, NoMemory}
-use Rattle.bus_top.specs.Bus.{state_of, IsSound}
-
--- what a text that was printed and lines that follow it are, as one run
-abbrev pub after_text : {X : Type 0} → List ℕ → (X → Played) → X → Played
-after_text text plays x = before text (plays x)
 
 -- one text and what follows it, and another, are the same run whatever comes
 abbrev pub SameRun : {X : Type 0} → List ℕ → (X → Played) → List ℕ → (X → Played) → Type 0
 SameRun {X} old plays new after = (x : X) → before new (after x) ≡ before old (plays x)
 
--- how a run ends where it stops, whatever comes; where memory ran out its text begins so
-abbrev pub Stops : {X : Type 0} → Stop → List ℕ → (X → Played) → Type 0
-Stops {X} (BadLine n) text plays = (x : X) → plays x ≡ record { text = text; ending = BadAt n }
-Stops {X} (TooLong n) text plays = (x : X) → plays x ≡ record { text = text; ending = TooLongAt n }
-Stops {X} NoMemory text plays = (x : X) → StartsWith (plays x).text text
+-- how a run ends where it stops, whatever comes, in the state of this bus, which is sound; where memory ran out its text begins so
+abbrev pub Stops : {X : Type 0} → Stop → List ℕ → Parts → (X → Played) → Type 0
+Stops {X} (BadLine n) text b plays = IsSound b × ((x : X) → plays x ≡ record { text = text; ending = BadAt n; state = state_of b })
+Stops {X} (TooLong n) text b plays = IsSound b × ((x : X) → plays x ≡ record { text = text; ending = TooLongAt n; state = state_of b })
+Stops {X} NoMemory text b plays = (x : X) → StartsWith (plays x).text text
 
 -- what lines do to a bus from a place on
-abbrev pub run_lines : Bus → Place → List RawLine → Played
+abbrev pub run_lines : Parts → Place → List RawLine → Played
 run_lines b p ls = played (state_of b) p.count p.used ls
 
 -- what bytes do
-abbrev pub run_bytes : Bus → Place → List ℕ → Played
+abbrev pub run_bytes : Parts → Place → List ℕ → Played
 run_bytes b p bytes = run_lines b p (lines_of bytes)
 
 -- a place within the limits, with so many bytes behind it
@@ -38,11 +34,11 @@ pub record IsWithin (p : Place) (pending : ℕ) : Type 0 where
   pub count : p.count ≤ most_lines
   pub used : p.used + pending ≤ longest_input
 
--- a line was taken, or it stops the run and prints nothing
-abbrev pub TakesLine : Result Unit Stop → RawLine → Bus → Place → List ℕ → Bus → Place → List ℕ → Type 0
+-- a line was taken, or it stops the run
+abbrev pub TakesLine : Result Unit Stop → RawLine → Parts → Place → List ℕ → Parts → Place → List ℕ → Type 0
 TakesLine (Ok u) raw b p text b' p' text' =
     IsSound b' × IsWithin p' 0 × (p'.used ≡ p.used + raw.size) × SameRun text (λ ls. run_lines b p (raw ∷ ls)) text' (run_lines b' p')
-TakesLine (Err stop) raw b p text b' p' text' = (text' ≡ text) × Stops stop text (λ ls. before text (run_lines b p (raw ∷ ls)))
+TakesLine (Err stop) raw b p text b' p' text' = Stops stop text' b' (λ ls. before text (run_lines b p (raw ∷ ls)))
 
 -- a session between two pieces: the bus is sound, and what has come of the next line has no LF
 pub record IsSession (s : Session) : Type 0 where
@@ -74,17 +70,18 @@ Holds (Err NoMemory) p pending part pending' = pending' ≡ pending
 abbrev pub TakesEnd : Result Unit Stop → List ℕ → Session → List ℕ → Session → List ℕ → Type 0
 TakesEnd (Ok u) line s text s' text' =
     IsSession s' × (s'.pending.items ≡ []) × (s'.place.used ≡ s.place.used + length line + 1) × SameRun text (λ rest. run_bytes s.bus s.place (line ++ 10 ∷ rest)) text' (run_bytes s'.bus s'.place)
-TakesEnd (Err stop) line s text s' text' = Stops stop text' (λ rest. before text (run_bytes s.bus s.place (line ++ 10 ∷ rest)))
+TakesEnd (Err stop) line s text s' text' = Stops stop text' s'.bus (λ rest. before text (run_bytes s.bus s.place (line ++ 10 ∷ rest)))
 
 -- a piece was taken, where so much had come by its end, or a line in it stops the run
 abbrev pub Takes : Result Unit Stop → List ℕ → Session → List ℕ → Session → List ℕ → Type 0
 Takes (Ok u) come s text s' text' = TookSome come [] s text s' text'
-Takes (Err stop) come s text s' text' = Stops stop text' (λ rest. before text (run_bytes s.bus s.place (come ++ rest)))
+Takes (Err stop) come s text s' text' = Stops stop text' s'.bus (λ rest. before text (run_bytes s.bus s.place (come ++ rest)))
 
--- the last line was taken, where there is one, and the run is at its end; or it stops the run
-abbrev pub Finishes : Result Unit Stop → Session → List ℕ → List ℕ → Type 0
-Finishes (Ok u) s text text' = before text (run_bytes s.bus s.place s.pending.items) ≡ before text' (ended Finished)
-Finishes (Err stop) s text text' = Stops {X = Unit {0}} stop text' (λ u. before text (run_bytes s.bus s.place s.pending.items))
+-- the last line was taken, where there is one, and the run is at its end, in the state of this bus, which is sound; or it stops
+-- the run
+abbrev pub Finishes : Result Unit Stop → Session → List ℕ → Parts → List ℕ → Type 0
+Finishes (Ok u) s text b text' = IsSound b × (before text (run_bytes s.bus s.place s.pending.items) ≡ before text' (ended Finished (state_of b)))
+Finishes (Err stop) s text b text' = Stops {X = Unit {0}} stop text' b (λ u. before text (run_bytes s.bus s.place s.pending.items))
 
 -- how far a script has come of which this much of the input is left and this much was written, from where they were:
 -- the whole lines that came, and the text that they printed

@@ -1,15 +1,19 @@
--- What a run of the program has read and written, by its status.
+-- What a run of the program has read and written, and the bus that it leaves, by its status.
 use Rattle.std.specs.Prelude.{◌≡◌, ℕ, List, [], ◌∷◌, map, take, codes, Option, Some, None, IfSome, String, string_bytes}
 use Rattle.std.specs.Global.{Global}
 use Rattle.std.specs.Io.KnownBytes.{Appends, Consumes, IsAtEnd}
-use Rattle.trace_script.specs.Run.{Ending, script, whole_part}
-use Rattle.trace_script.specs.Run.Ending.{Finished, BadAt, TooLongAt}
+use Rattle.trace_script.specs.Input.{whole_part}
+use Rattle.history_core.specs.Run.{Ending, script}
+use Rattle.history_core.specs.Run.Ending.{Finished, BadAt, TooLongAt}
+use Rattle.history_core.specs.Bus.{Parts, state_of, IsSound}
 use Rattle.bus_top.specs.declared.session.Session.{Session}
 use Rattle.bus_top.specs.declared.status.Status.{Status}
 use Rattle.bus_top.specs.declared.status.Status.TheVariants.{Done, Usage, BadLine, ReadFault, WriteFault, NoMemory, TooLong}
 use Rattle.bus_top.specs.declared.session.Stop.{Stop}
 use Rattle.bus_top.specs.declared.session.Stop.TheVariants as Stopping
 use Rattle.bus_top.specs.Session.{Reached, run_bytes}
+
+-- ---- what was read and written
 
 -- where the input is told: as a script it ends so, and what was written is the text that it prints up to there
 abbrev pub EndsAt : Ending → Option (List ℕ) → Option (List ℕ) → Option (List ℕ) → Type 0
@@ -38,15 +42,60 @@ Ended WriteFault input left output written = StopsWriting input output written
 Ended NoMemory input left output written = StopsWriting input output written
 Ended (TooLong line) input left output written = EndsAt (TooLongAt line) input output written
 
+-- ---- the bus that a run leaves
+
+-- a sound bus; where the input is told, its state is the one that the script in it leaves
+pub record LeavesBus (input : Option (List ℕ)) (kept : Option Parts) : Type 0 where
+  pub bus : Parts
+  pub is : kept ≡ Some bus
+  pub sound : IsSound bus
+  pub state : IfSome input (λ bytes. (script bytes).state ≡ state_of bus)
+
+-- a sound bus; where the input is told, its state is the one that the whole lines of the part that was read leave
+pub record LeavesFrontBus (input left : Option (List ℕ)) (kept : Option Parts) : Type 0 where
+  pub bus : Parts
+  pub is : kept ≡ Some bus
+  pub sound : IsSound bus
+  pub state : IfSome input (λ bytes. (front : List ℕ) × Consumes input left front × ((script (whole_part front)).state ≡ state_of bus))
+
+-- what a run that ended with a status hands back: the bus as the lines that were taken left it, or none
+abbrev pub HandsBack : Status → Option (List ℕ) → Option (List ℕ) → Option Parts → Type 0
+HandsBack Done input left kept = LeavesBus input kept
+HandsBack Usage input left kept = kept ≡ None
+HandsBack (BadLine line) input left kept = LeavesBus input kept
+HandsBack ReadFault input left kept = LeavesFrontBus input left kept
+HandsBack WriteFault input left kept = kept ≡ None
+HandsBack NoMemory input left kept = kept ≡ None
+HandsBack (TooLong line) input left kept = LeavesBus input kept
+
+-- the bus of a session, where its end hands it back
+abbrev pub kept_by : Status → Parts → Option Parts
+kept_by Done b = Some b
+kept_by Usage b = None
+kept_by (BadLine line) b = Some b
+kept_by ReadFault b = Some b
+kept_by WriteFault b = None
+kept_by NoMemory b = None
+kept_by (TooLong line) b = Some b
+
+-- ---- turns
+
+-- a run ended, and what its status keeps of this bus may be handed back
+pub record EndedWith (status : Status) (input left output written : Option (List ℕ)) (b : Parts) : Type 0 where
+  pub ended : Ended status input left output written
+  pub back : HandsBack status input left (kept_by status b)
+
 -- a turn goes on or ends the run
 abbrev pub Turned : Option Status → Option (List ℕ) → Option (List ℕ) → Option (List ℕ) → Option (List ℕ) → Session → Type 0
 Turned None input left output written s = Reached input left output written s
-Turned (Some status) input left output written s = Ended status input left output written
+Turned (Some status) input left output written s = EndedWith status input left output written s.bus
 
--- the last line ends the run so, and its text was written
-abbrev pub EndsWith : Ending → Option (List ℕ) → Option (List ℕ) → Session → Type 0
-EndsWith ending written written' s =
-    ((run_bytes s.bus s.place s.pending.items).ending ≡ ending) × Appends written written' (run_bytes s.bus s.place s.pending.items).text
+-- the last line ends the run so, its text was written, and it leaves the bus so
+pub record EndsWith (ending : Ending) (written written' : Option (List ℕ)) (s : Session) (b : Parts) : Type 0 where
+  pub ends : (run_bytes s.bus s.place s.pending.items).ending ≡ ending
+  pub wrote : Appends written written' (run_bytes s.bus s.place s.pending.items).text
+  pub sound : IsSound b
+  pub state : (run_bytes s.bus s.place s.pending.items).state ≡ state_of b
 
 -- a front of its text was written
 abbrev pub BreaksOff : Option (List ℕ) → Option (List ℕ) → Session → Type 0
@@ -57,12 +106,12 @@ stop_status (Stopping.BadLine line) = BadLine line
 stop_status (Stopping.TooLong line) = TooLong line
 stop_status Stopping.NoMemory = NoMemory
 
--- what the end of a run writes, from a session of which everything has come
-abbrev pub Ends : Status → Option (List ℕ) → Option (List ℕ) → Session → Type 0
-Ends Done written written' s = EndsWith Finished written written' s
-Ends Usage written written' s = ⊥
-Ends (BadLine line) written written' s = EndsWith (BadAt line) written written' s
-Ends ReadFault written written' s = ⊥
-Ends WriteFault written written' s = BreaksOff written written' s
-Ends NoMemory written written' s = BreaksOff written written' s
-Ends (TooLong line) written written' s = EndsWith (TooLongAt line) written written' s
+-- what the end of a run writes, from a session of which everything has come, and the bus that it leaves
+abbrev pub Ends : Status → Option (List ℕ) → Option (List ℕ) → Session → Parts → Type 0
+Ends Done written written' s b = EndsWith Finished written written' s b
+Ends Usage written written' s b = ⊥
+Ends (BadLine line) written written' s b = EndsWith (BadAt line) written written' s b
+Ends ReadFault written written' s b = ⊥
+Ends WriteFault written written' s b = BreaksOff written written' s
+Ends NoMemory written written' s b = BreaksOff written written' s
+Ends (TooLong line) written written' s b = EndsWith (TooLongAt line) written written' s b

@@ -1,25 +1,33 @@
-ghost use Rattle.std.specs.Prelude.{◌≡◌, ℕ, ◌+◌, ◌≤◌, ◌<◌, ◌↔◌, List, [], length, Option, IsTrue, IfNone, codes, string_bytes};
+ghost use Rattle.std.specs.Prelude.{◌≡◌, ℕ, ◌+◌, ◌≤◌, ◌<◌, ◌↔◌, List, [], length, Option, None, IsTrue, IfNone, codes, string_bytes};
 ghost use Rattle.std.specs.Io.KnownBytes.{IsAtEnd};
 ghost use Rattle.bus_types.specs.Causes.{Rose};
-ghost use Rattle.trace_script.specs.Run.Ending.{Finished, BadAt, TooLongAt};
+ghost use Rattle.history_core.specs.Run.Ending.{Finished, BadAt, TooLongAt};
 ghost use Rattle.bus_top.specs.Session.{IsSession, Reached};
-ghost use Rattle.bus_top.specs.Trace.{EndsAt, StopsReading, StopsWriting, IsTrace, Ended, Ends, Turned, stop_status};
+ghost use Rattle.bus_top.specs.Trace.{EndsAt, StopsReading, StopsWriting, HandsBack, IsTrace, Ended, Ends, Turned, kept_by, stop_status};
 
 use crate::session::{Session, Stop};
 use crate::status::Status;
 use bus_io::{Sink, Source, write_all};
+use history_core::Bus;
 use std::alloc::Global;
 
 /// How many bytes of the input are asked for at a time.
 const PIECE: usize = 65_536;
 
 /// Runs the script that the input holds, and writes what its lines print, under the one word `trace`.
+///
+/// `kept` gets the bus, where it is one still: after `Done` as the lines left it, after `BadLine` and `TooLong` as those
+/// before the line at fault did, and after `ReadFault` as the whole lines that were read did. After `Usage`, `WriteFault`
+/// and `NoMemory` it stays `None`.
 pub fn trace<S: Source, W: Sink>(
     alloc: Global,
     words: &[String],
     input: &mut S,
     out: &mut W,
+    kept: &mut Option<Bus>,
 ) -> Status
+    requires { kept.old ≡ None }
+
     // The words are another command's exactly where it says so.
     ensures usage { (result ≡ Status.Usage) ↔ (IsTrace words.now → ⊥) }
     ensures untouched { result ≡ Status.Usage → (input.new ≡ input.old) × (out.new ≡ out.old) }
@@ -40,11 +48,14 @@ pub fn trace<S: Source, W: Sink>(
     ensures read_so_far { result ≡ Status.ReadFault → StopsReading (S.left input.old) (S.left input.new) (W.written out.old) (W.written out.new) }
     ensures written_so_far { result ≡ Status.WriteFault → StopsWriting (S.left input.old) (W.written out.old) (W.written out.new) }
     ensures no_memory { result ≡ Status.NoMemory → StopsWriting (S.left input.old) (W.written out.old) (W.written out.new) }
+
+    // The bus as the lines that were taken left it, or none.
+    ensures kept { HandsBack result (S.left input.old) (S.left input.new) kept.new }
 {
     if !is_trace(words) {
         return Status::Usage;
     }
-    run(alloc, input, out)
+    run(alloc, input, out, kept)
 }
 
 // Whether the words are the one word `trace`.
@@ -64,8 +75,15 @@ fn is_word(word: &String) -> bool
 }
 
 // Runs the script that the input holds.
-fn run<S: Source, W: Sink>(alloc: Global, input: &mut S, out: &mut W) -> Status
+fn run<S: Source, W: Sink>(
+    alloc: Global,
+    input: &mut S,
+    out: &mut W,
+    kept: &mut Option<Bus>,
+) -> Status
+    requires { kept.old ≡ None }
     ensures ended { Ended result (S.left input.old) (S.left input.new) (W.written out.old) (W.written out.new) }
+    ensures kept { HandsBack result (S.left input.old) (S.left input.new) kept.new }
     ensures read_fault { result ≡ Status.ReadFault → Rose (S.faults input.old) (S.faults input.new) }
     ensures write_fault { result ≡ Status.WriteFault → Rose (W.faults out.old) (W.faults out.new) }
 {
@@ -76,8 +94,21 @@ fn run<S: Source, W: Sink>(alloc: Global, input: &mut S, out: &mut W) -> Status
     let mut piece = piece_room();
     loop {
         if let Some(status) = turn(alloc, &mut session, &mut text, &mut piece, input, out) {
+            *kept = left_bus(status, session.bus);
             return status;
         }
+    }
+}
+
+// The bus that a run with this end hands back.
+fn left_bus(status: Status, bus: Bus) -> Option<Bus>
+    ensures { result ≡ kept_by status bus }
+{
+    match status {
+        Status::Done | Status::BadLine { .. } | Status::TooLong { .. } | Status::ReadFault => {
+            Some(bus)
+        }
+        Status::Usage | Status::WriteFault | Status::NoMemory => None,
     }
 }
 
@@ -127,7 +158,7 @@ fn turn<S: Source, W: Sink>(
 fn end<W: Sink>(alloc: Global, session: &mut Session, text: &mut Vec<u8>, out: &mut W) -> Status
     requires session { IsSession session.old }
     requires empty { text.old.items ≡ [] }
-    ensures ends { Ends result (W.written out.old) (W.written out.new) session.old }
+    ensures ends { Ends result (W.written out.old) (W.written out.new) session.old session.new.bus }
     ensures later { W.faults out.old ≤ W.faults out.new }
     ensures write_fault { result ≡ Status.WriteFault → Rose (W.faults out.old) (W.faults out.new) }
 {

@@ -1,15 +1,23 @@
-ghost use Rattle.std.specs.Prelude.{◌≡◌, ◌+◌, ◌≤◌, [], ◌∷◌, ◌++◌, length, IfOk, IfSome, IfNone};
-ghost use Rattle.trace_script.specs.Run.{IsPart, text_step};
-ghost use Rattle.bus_top.specs.Bus.{state_of, IsSound, Steps};
+ghost use Rattle.std.specs.Prelude.{◌≡◌, ◌+◌, ◌≤◌, [], ◌∷◌, ◌++◌, length, Some, IfOk, IfSome, IfNone};
+ghost use Rattle.trace_script.specs.Input.{IsPart};
+ghost use Rattle.history_core.specs.Script.{start};
+ghost use Rattle.history_core.specs.Run.{text_step};
+ghost use Rattle.history_core.specs.Bus.{state_of, IsSound, Steps};
 ghost use Rattle.bus_top.specs.Session.{IsSession, IsWithin, TakesLine, TakesEnd, Takes, Finishes, Holds, is_long};
-ghost use Rattle.bus_types.specs.Script.{start};
 
-use crate::bus::Bus;
-use crate::fault::StepFault;
+use bus_io::GrowingSink;
 use bus_types::NoMemory;
+use history_core::{Bus, StepFault};
 use memchr::memchr;
 use std::alloc::Global;
+use std::mem;
 use trace_script::{LineFault, read_line};
+
+/// The most bytes of windows that the relay keeps where no line says it.
+const USUAL_BYTES: u64 = 16_777_216;
+
+/// The most windows that the relay keeps where no line says it.
+const USUAL_WINDOWS: u32 = 4_096;
 
 /// The most lines of a script.
 const MOST_LINES: u64 = 1_000_000;
@@ -55,7 +63,7 @@ impl Session {
         ensures session { IfOk result IsSession }
     {
         Ok(Session {
-            bus: Bus::new(alloc)?,
+            bus: Bus::new(alloc, USUAL_BYTES, USUAL_WINDOWS)?,
             place: Place { count: 0, used: 0 },
             pending: Vec::new(alloc),
         })
@@ -66,72 +74,80 @@ impl Session {
         requires { IsSession self.old }
         ensures { Takes result (self.old.pending.items ++ piece.now) self.old text.old.items self.new text.new.items }
     {
+        let mut out = GrowingSink::new(mem::replace(text, Vec::new(alloc)));
+        let fed = self.take_lines(alloc, piece, &mut out);
+        *text = out.into_bytes();
+        fed
+    }
+
+    // Takes the lines of a piece, and keeps what stands behind them.
+    fn take_lines(&mut self, alloc: Global, piece: &[u8], out: &mut GrowingSink) -> Result<(), Stop>
+        requires { IsSession self.old }
+        ensures { Takes result (self.old.pending.items ++ piece.now) self.old out.old.bytes self.new out.new.bytes }
+    {
         let mut rest = piece;
         while let Some((line, after)) = first_line(rest) {
-            self.take_line(alloc, line, text)?;
+            self.take_line(alloc, line, out)?;
             rest = after;
         }
         hold(&self.place, &mut self.pending, rest)
     }
 
     // Takes the line of which this is the end, before its LF.
-    fn take_line(&mut self, alloc: Global, end: &[u8], text: &mut Vec<u8>) -> Result<(), Stop>
+    fn take_line(&mut self, alloc: Global, end: &[u8], out: &mut GrowingSink) -> Result<(), Stop>
         requires session { IsSession self.old }
         requires part { IsPart end.now }
-        ensures { TakesEnd result (self.old.pending.items ++ end.now) self.old text.old.items self.new text.new.items }
+        ensures { TakesEnd result (self.old.pending.items ++ end.now) self.old out.old.bytes self.new out.new.bytes }
     {
         if self.pending.is_empty() {
-            self.take_whole(alloc, end, text)
+            self.take_whole(alloc, end, out)
         } else {
-            self.take_joined(alloc, end, text)
+            self.take_joined(alloc, end, out)
         }
     }
 
     // Takes a line that came in one piece.
-    fn take_whole(&mut self, alloc: Global, line: &[u8], text: &mut Vec<u8>) -> Result<(), Stop>
+    fn take_whole(&mut self, alloc: Global, line: &[u8], out: &mut GrowingSink) -> Result<(), Stop>
         requires session { IsSession self.old }
         requires empty { self.old.pending.items ≡ [] }
         requires part { IsPart line.now }
-        ensures { TakesEnd result line.now self.old text.old.items self.new text.new.items }
+        ensures { TakesEnd result line.now self.old out.old.bytes self.new out.new.bytes }
     {
-        step(&mut self.bus, &mut self.place, alloc, line, 1, text)
+        step(&mut self.bus, &mut self.place, alloc, line, 1, out)
     }
 
     // Takes a line that came in several pieces, of which this is the last.
-    fn take_joined(&mut self, alloc: Global, end: &[u8], text: &mut Vec<u8>) -> Result<(), Stop>
+    fn take_joined(&mut self, alloc: Global, end: &[u8], out: &mut GrowingSink) -> Result<(), Stop>
         requires session { IsSession self.old }
         requires part { IsPart end.now }
-        ensures { TakesEnd result (self.old.pending.items ++ end.now) self.old text.old.items self.new text.new.items }
+        ensures { TakesEnd result (self.old.pending.items ++ end.now) self.old out.old.bytes self.new out.new.bytes }
     {
         hold(&self.place, &mut self.pending, end)?;
-        step(
-            &mut self.bus,
-            &mut self.place,
-            alloc,
-            &self.pending,
-            1,
-            text,
-        )?;
+        step(&mut self.bus, &mut self.place, alloc, &self.pending, 1, out)?;
         self.pending.clear();
         Ok(())
     }
 
-    /// Takes the last line, where it has come without its LF.
+    /// Takes the last line, where it has come without its LF, and appends what it prints.
     pub fn finish(&mut self, alloc: Global, text: &mut Vec<u8>) -> Result<(), Stop>
         requires { IsSession self.old }
-        ensures { Finishes result self.old text.old.items text.new.items }
+        ensures { Finishes result self.old text.old.items self.new.bus text.new.items }
+    {
+        let mut out = GrowingSink::new(mem::replace(text, Vec::new(alloc)));
+        let done = self.take_last(alloc, &mut out);
+        *text = out.into_bytes();
+        done
+    }
+
+    // Takes what has come as a line without its LF, where anything has.
+    fn take_last(&mut self, alloc: Global, out: &mut GrowingSink) -> Result<(), Stop>
+        requires { IsSession self.old }
+        ensures { Finishes result self.old out.old.bytes self.new.bus out.new.bytes }
     {
         if self.pending.is_empty() {
             return Ok(());
         }
-        step(
-            &mut self.bus,
-            &mut self.place,
-            alloc,
-            &self.pending,
-            0,
-            text,
-        )
+        step(&mut self.bus, &mut self.place, alloc, &self.pending, 0, out)
     }
 }
 
@@ -183,38 +199,38 @@ fn step(
     alloc: Global,
     line: &[u8],
     end: u64,
-    text: &mut Vec<u8>,
+    out: &mut GrowingSink,
 ) -> Result<(), Stop>
     requires sound { IsSound bus.old }
     requires within { IsWithin place.old 0 }
     requires end { end ≤ 1 }
-    ensures { TakesLine result (record { text = line.now; size = length line.now + end }) bus.old place.old text.old.items bus.new place.new text.new.items }
+    ensures { TakesLine result (record { text = line.now; size = length line.now + end }) bus.old place.old out.old.bytes bus.new place.new out.new.bytes }
 {
     let size = line.len() as u64 + end;
     if is_too_long(place, line.len() as u64, size) {
         return Err(Stop::TooLong(place.count + 1));
     }
-    let printed = match take(bus, alloc, line) {
-        Ok(printed) => printed,
-        Err(StepFault::BadLine) => return Err(Stop::BadLine(place.count + 1)),
-        Err(StepFault::NoMemory) => return Err(Stop::NoMemory),
-    };
-    let Ok(()) = text.extend_from_slice(&printed) else {
-        return Err(Stop::NoMemory);
-    };
-    place.count += 1;
-    place.used += size;
-    Ok(())
+    match take(bus, alloc, line, out) {
+        Ok(()) => {
+            place.count += 1;
+            place.used += size;
+            Ok(())
+        }
+        Err(StepFault::BadLine) => Err(Stop::BadLine(place.count + 1)),
+        // A sink in memory fails where there is none.
+        Err(StepFault::WriteFault { .. }) => Err(Stop::NoMemory),
+        Err(StepFault::NoMemory) => Err(Stop::NoMemory),
+    }
 }
 
-// What a text does as a line, and what it prints.
-#[tactic(auto, unfolding(trace_script::specs::Run::text_step))]
-fn take(bus: &mut Bus, alloc: Global, text: &[u8]) -> Result<Vec<u8>, StepFault>
+// What a text does as a line.
+#[tactic(auto, unfolding(history_core::specs::Run::text_step))]
+fn take(bus: &mut Bus, alloc: Global, text: &[u8], out: &mut GrowingSink) -> Result<(), StepFault>
     requires { IsSound bus.old }
-    ensures { Steps result (text_step (state_of bus.old) text.now) bus.old bus.new }
+    ensures { Steps result (text_step (state_of bus.old) text.now) bus.old bus.new (Some out.old.bytes) (Some out.new.bytes) }
 {
     match read_line(alloc, text) {
-        Ok(line) => bus.step(alloc, line),
+        Ok(line) => bus.step(alloc, &line, out),
         Err(LineFault::BadLine) => Err(StepFault::BadLine),
         Err(LineFault::NoMemory) => Err(StepFault::NoMemory),
     }

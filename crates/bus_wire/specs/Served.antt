@@ -1,5 +1,5 @@
 -- The reply of what a relay serves.
-use Rattle.std.specs.Prelude.{ℕ, List, length}
+use Rattle.std.specs.Prelude.{ℕ, length}
 use Rattle.bus_types.specs.declared.limits.TheConstants.{MAX_SCN}
 use Rattle.bus_types.specs.Timeline.{end_of}
 use Rattle.bus_types.specs.Relay.{Served}
@@ -8,18 +8,10 @@ use Rattle.partition_filter.specs.Selection.{Selection}
 use Rattle.event_codec.specs.declared.answer.Answer.TheVariants as answers
 use Rattle.event_codec.specs.declared.reply.Shape.{Shape}
 use Rattle.event_codec.specs.declared.reply.Shape.TheVariants as shapes
-use Rattle.event_codec.specs.Frames.{answer_bytes}
-use Rattle.event_codec.specs.Streams.{windows_bytes}
+use Rattle.event_codec.specs.Reply.{reply_bytes}
 use Rattle.bus_wire.specs.declared.ask.Ask.{Ask}
 use Rattle.bus_wire.specs.declared.ask.Ask.TheVariants.{Stream}
 use Rattle.bus_wire.specs.Lawful.{IsAnswerTo, IsRun, IsLawful}
-
--- its bytes
-abbrev pub served_bytes : Served → List ℕ
-served_bytes (NotFound floor) = answer_bytes (answers.NotFound floor)
-served_bytes (Empty end) = answer_bytes (answers.Empty end)
-served_bytes (TooSmall need) = answer_bytes (answers.TooSmall need)
-served_bytes (Windows ws) = windows_bytes ws
 
 -- its shape
 abbrev pub served_shape : Served → Shape
@@ -37,4 +29,4 @@ Serves scn filter max (Windows ws) = IsRun scn MAX_SCN filter ws
 
 -- it is a lawful reply
 abbrev pub IsLawfullyServed : Ask → Served → Type 0
-IsLawfullyServed ask served = IsLawful ask (served_bytes served) (served_shape served)
+IsLawfullyServed ask served = IsLawful ask (reply_bytes served) (served_shape served)

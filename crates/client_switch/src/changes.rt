@@ -1,40 +1,12 @@
 ghost use Rattle.std.specs.Prelude.{◌≡◌, ◌<◌, ◌≤◌, List, length, drop, IfOk};
 ghost use Rattle.bus_types.specs.Window.{Span};
-ghost use Rattle.event_codec.specs.View.{event_of};
 ghost use Rattle.dispatcher.specs.Telling.{AreAll, HaveWindows};
 ghost use Rattle.client_switch.specs.Moves.{changes_of};
 ghost use Rattle.client_switch.specs.Turning.{Goes};
 
-use bus_types::{Change, Key, NoMemory, Payload};
+use bus_types::{Change, NoMemory};
 use event_codec::{EventView, MARK_SIZE};
 use std::alloc::Global;
-
-// The kind of a put.
-const PUT: u8 = 1;
-
-// What an event puts, if it is a put.
-fn put_of(alloc: Global, event: EventView) -> Result<Option<Payload>, NoMemory>
-    ensures { IfOk result (λ put. put ≡ (event_of event.entry).change.put) }
-{
-    if event.kind != PUT {
-        return Ok(None);
-    }
-    let Ok(payload) = Payload::new(alloc, event.payload) else {
-        return Err(NoMemory);
-    };
-    Ok(Some(payload))
-}
-
-// The change of an event.
-fn change_of(alloc: Global, event: EventView) -> Result<Change, NoMemory>
-    ensures { IfOk result (λ change. change ≡ (event_of event.entry).change) }
-{
-    Ok(Change {
-        source: event.source,
-        key: Key::Long(event.key),
-        put: put_of(alloc, event)?,
-    })
-}
 
 // What follows a mark.
 fn behind_mark(bytes: &[u8]) -> &[u8]
@@ -58,7 +30,7 @@ fn take_item<'a>(
 {
     match EventView::at(bytes, 0) {
         Some((event, next)) => {
-            changes.push(change_of(alloc, event)?)?;
+            changes.push(event.change(alloc)?)?;
             Ok(&bytes[next..])
         }
         None => Ok(behind_mark(bytes)),

@@ -24,7 +24,8 @@ fn run(rt: &HostRuntime) -> Status {
     };
     let mut input = Reading::new(rt.stdin());
     let mut out = Writing::new(rt.stdout());
-    trace(rt.alloc(), &words, &mut input, &mut out)
+    let mut kept = None;
+    trace(rt.alloc(), &words, &mut input, &mut out, &mut kept)
 }
 
 // The words behind the program's name.

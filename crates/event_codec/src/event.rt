@@ -1,8 +1,10 @@
-ghost use Rattle.std.specs.Prelude.{◌≡◌, ◌+◌, ◌≤◌, ℕ, length, IfSome, IfNone, option_map};
+ghost use Rattle.std.specs.Prelude.{◌≡◌, ◌+◌, ◌≤◌, ℕ, length, IfSome, IfNone, IfOk, option_map};
 ghost use Rattle.event_codec.specs.Bytes.{Event, IsEvent, event_bytes, StandsAt};
 
-use crate::head::{HEAD_SIZE, Head};
+use crate::head::{HEAD_SIZE, Head, PUT};
 use crate::number::tail;
+use bus_types::{Change, Key, NoMemory, Payload};
+use std::alloc::Global;
 
 /// An event where it stands in bytes.
 #[derive(Clone, Copy, Debug)]
@@ -53,5 +55,30 @@ impl<'a> EventView<'a> {
     {
         let view = EventView::front(tail(bytes, place))?;
         Some((view, place + HEAD_SIZE + view.payload.len()))
+    }
+
+    // What the event puts, if it is a put.
+    fn put(&self, alloc: Global) -> Result<Option<Payload>, NoMemory>
+        ensures { IfOk result (λ put. put ≡ (event_of self.now).change.put) }
+    {
+        if self.kind != PUT {
+            return Ok(None);
+        }
+        let Ok(payload) = Payload::new(alloc, self.payload) else {
+            return Err(NoMemory);
+        };
+        Ok(Some(payload))
+    }
+
+    /// The change that the event is, with a copy of its payload. Want of memory is its only fault, as long as the
+    /// payload is within its limit.
+    pub fn change(&self, alloc: Global) -> Result<Change, NoMemory>
+        ensures { IfOk result (λ change. change ≡ (event_of self.now).change) }
+    {
+        Ok(Change {
+            source: self.source,
+            key: Key::Long(self.key),
+            put: self.put(alloc)?,
+        })
     }
 }

@@ -4,3 +4,4 @@ pub mod Run
 pub mod Bus
 pub mod Acting
 pub mod Worked
+pub mod Polling

@@ -3,6 +3,7 @@ ghost use Rattle.bus_types.specs.Causes.{Rose};
 ghost use Rattle.bus_types.specs.Timeline.{IsTimelineFrom};
 ghost use Rattle.partition_filter.specs.Selection.{test_of};
 ghost use Rattle.bus_stores.specs.Memory.{stop_at};
+ghost use Rattle.trace_script.specs.declared.line.Line.{Line};
 ghost use Rattle.trace_script.specs.Spelling.{is_in_range};
 ghost use Rattle.history_core.specs.Script.{start};
 ghost use Rattle.history_core.specs.Steps.{Step, begin, place_of, relay_step, consumer_step, commit_step, feed_step, stream_step, poll_step, crash_step, stop_step, show_step};
@@ -168,7 +169,7 @@ impl Bus {
     // Keeps, where a line was taken, that a line that isn't blank has come.
     fn begin(&mut self, done: Result<Vec<u8>, StepFault>) -> Result<Vec<u8>, StepFault>
         ensures does { (first : Parts) (defined : Step) → Acts done defined first self.old → Does result (begin defined) first self.new }
-        ensures members { self.new.members ≡ self.old.members }
+        ensures calls { (line : Line) (first : Parts) → OnOk done (Calls line first self.old) → OnOk result (Calls line first self.new) }
     {
         match done {
             Ok(text) => {
@@ -198,12 +199,7 @@ impl Bus {
 
     // A new consumer.
     #[tactic(auto, unfolding(crate::specs::Steps::consumer_step))]
-    fn declare(
-        &mut self,
-        alloc: Global,
-        name: Name,
-        filter: &Filter,
-    ) -> Result<Vec<u8>, StepFault>
+    fn declare(&mut self, alloc: Global, name: Name, filter: &Filter) -> Result<Vec<u8>, StepFault>
         requires { IsSound self.old }
         ensures { Acts result (consumer_step (state_of self.old) name filter.now) self.old self.new }
     {
@@ -221,12 +217,7 @@ impl Bus {
 
     // The source commits a window.
     #[tactic(auto, unfolding(crate::specs::Steps::commit_step))]
-    fn commit(
-        &mut self,
-        alloc: Global,
-        scn: u64,
-        changes: &Changes,
-    ) -> Result<Vec<u8>, StepFault>
+    fn commit(&mut self, alloc: Global, scn: u64, changes: &Changes) -> Result<Vec<u8>, StepFault>
         requires { IsSound self.old }
         ensures { Acts result (commit_step (state_of self.old) scn changes.now) self.old self.new }
     {

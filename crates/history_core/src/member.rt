@@ -37,8 +37,12 @@ impl Model for Member {
     ghost view = { λ m. record { name = m.name; client = m.client; store = m.keeper; shows = m.shows } };
 }
 
-// Opens a client over what a keeper holds that fails at no call.
-fn open(alloc: Global, keeper: &mut MemoryKeeper, filter: Filter) -> Result<Client, NoMemory>
+/// Opens a client over what a keeper holds that fails at no call.
+pub(crate) fn open(
+    alloc: Global,
+    keeper: &mut MemoryKeeper,
+    filter: Filter,
+) -> Result<Client, NoMemory>
     requires sound { keeper.old.fails ≡ [] }
     requires stored { (mark : Mark) × IsStored (last_mark keeper.old.marks) mark }
     ensures filter { IfOk result (λ client. client.filter ≡ filter) }

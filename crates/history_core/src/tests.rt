@@ -20,7 +20,13 @@ fn printed(alloc: Global, script: &str) -> Option<String> {
 
 #[test]
 fn a_stop_leaves_the_rows_before_its_commit_or_after_it(rt: HostRuntime) {
-    let script = "consumer c all\ncommit 10 0/1=aa\nfeed 1\nstop c before\npoll c 1000\nshow c\nstop c after\npoll c 1000\nshow c\ncrash c\npoll c 1000\n";
+    let script =
+        "consumer c all\ncommit 10 0/1=aa\nfeed 1\nstop c before\npoll c 1000\nshow c\nstop c after\npoll c 1000\nshow c\ncrash c\npoll c 1000\n";
     let text = printed(rt.alloc(), script);
-    assert_eq!(rt; text.as_deref(), Some("relay 0 10\nstopped before\nshow c online 0 0\nstopped after\nshow c online 10 1\n0/1=aa\nempty 10\n"));
+    assert_eq!(rt;
+        text.as_deref(),
+        Some(
+            "relay 0 10\nstopped before\nshow c online 0 0\nstopped after\nshow c online 10 1\n0/1=aa\nempty 10\n"
+        )
+    );
 }

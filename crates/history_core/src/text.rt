@@ -24,14 +24,26 @@ fn line_with(alloc: Global, word: &str, number: u64) -> Result<String, NoMemory>
     Ok(format!(in alloc; "{word} {number}\n")?)
 }
 
+// Windows that a consumer took.
+fn served(alloc: Global, count: u32, bytes: u64, last: u64) -> Result<String, NoMemory>
+    ensures { IfOk result (λ text. string_bytes text ≡ served_line count bytes (codes " online ") last) }
+{
+    Ok(format!(in alloc; "served {count} {bytes} online {last}\n")?)
+}
+
+// Windows that are no consumer's.
+fn sent(alloc: Global, count: u32, bytes: u64, last: u64) -> Result<String, NoMemory>
+    ensures { IfOk result (λ text. string_bytes text ≡ served_line count bytes (codes " last ") last) }
+{
+    Ok(format!(in alloc; "served {count} {bytes} last {last}\n")?)
+}
+
 /// What a poll prints of a reply of this shape, with so many bytes, that its consumer took.
 pub(crate) fn reply(alloc: Global, shape: &Shape, bytes: u64) -> Result<Vec<u8>, NoMemory>
     ensures { IfOk result (λ text. text.items ≡ shape_line shape.now bytes) }
 {
     match shape {
-        Shape::Windows { count, last } => {
-            Ok(format!(in alloc; "served {count} {bytes} online {last}\n")?.into_bytes())
-        }
+        Shape::Windows { count, last } => Ok(served(alloc, *count, bytes, *last)?.into_bytes()),
         Shape::Only(answer) => answered(alloc, answer),
         Shape::Rows { .. } | Shape::Changes { .. } => Ok(Vec::new(alloc)),
     }
@@ -59,9 +71,7 @@ pub(crate) fn stream(alloc: Global, served: Served) -> Result<String, NoMemory>
         Served::NotFound(floor) => line_with(alloc, "notfound", floor),
         Served::Empty(end) => line_with(alloc, "empty", end),
         Served::TooSmall(need) => line_with(alloc, "small", need),
-        Served::Windows { count, last, bytes } => {
-            Ok(format!(in alloc; "served {count} {bytes} last {last}\n")?)
-        }
+        Served::Windows { count, last, bytes } => sent(alloc, count, bytes, last),
     }
 }
 
@@ -86,12 +96,7 @@ pub(crate) fn mode(alloc: Global, name: &[u8], mode: &[u8]) -> Result<Vec<u8>, N
 }
 
 /// What is shown of a consumer that is online: its SCN and its rows.
-pub(crate) fn show(
-    alloc: Global,
-    name: &[u8],
-    scn: u64,
-    rows: &[Row],
-) -> Result<Vec<u8>, NoMemory>
+pub(crate) fn show(alloc: Global, name: &[u8], scn: u64, rows: &[Row]) -> Result<Vec<u8>, NoMemory>
     ensures { IfOk result (λ text. text.items ≡ rows_text name.now scn (map pair_of rows.now)) }
 {
     let mut text = heading(alloc, name, scn, rows.len())?;

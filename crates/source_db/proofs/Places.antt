@@ -1,33 +1,14 @@
 -- Places in a timeline against SCNs: what a binary search finds, and the last window.
-use Rattle.std.proofs.Common.{◌≡◌, ℕ, zero, suc, ◌+◌, ◌-◌, ◌<◌, ◌≤◌, Bool, true, false, leb, List, [], ◌∷◌, Option, Some, None, length, get_or, take, drop, refl, sym, ap, ◌∙◌, arith, inl, inr}
+use Rattle.std.proofs.Common.{◌≡◌, ℕ, zero, suc, ◌+◌, ◌-◌, ◌<◌, ◌≤◌, true, false, leb, List, [], ◌∷◌, Some, length, take, drop, refl, sym, ap, ◌∙◌, arith, inl, inr}
 use Rattle.std.specs.List.{slice_get}
-use Rattle.std.specs.List.Sorted.{IsNonDecreasingBy, IsPartitionPoint}
+use Rattle.std.specs.List.Sorted.{IsPartitionPoint}
 use Rattle.std.proofs.lemmas.Bool.{leb-true, leb-false, cases_lt}
 use Rattle.std.proofs.lemmas.List.{drop-take, take_rest, length-append}
 use Rattle.std.proofs.Math.Seq.{drop-length}
 use Rattle.std.proofs.lemmas.Option.{same_Some, slice_get_within}
 use Rattle.bus_types.specs.Window.{Span}
 use Rattle.bus_types.specs.Timeline.{IsTimeline, end_from, end_of, windows_between}
-use Rattle.bus_types.proofs.Stretches.{Rises, timeline_rises, between_in, between_above, rises_before, between_is_part, between_all, between_none, between-split}
-
--- each rising window is above the SCN before them
-rises_at : (prev : ℕ) (ws : List Span) (j : ℕ) (d : Span) → Rises prev ws → j < length ws → prev < (get_or ws j d).scn
-rises_at prev [] j d r lt = absurd (omega arith)
-rises_at prev (w ∷ ws) zero d r lt = r.0
-rises_at prev (w ∷ ws) (suc j) d r lt =
-    let rest = rises_at w.scn ws j d r.1 (omega arith) in
-    let first = r.0 in
-    omega arith
-
--- the SCNs of rising windows don't fall
-pub rises_in_order : (prev : ℕ) (ws : List Span) → Rises prev ws → IsNonDecreasingBy (λ w. w.scn) ws
-rises_in_order prev [] r i j d le lt = absurd (omega arith)
-rises_in_order prev (w ∷ ws) r zero zero d le lt = omega arith
-rises_in_order prev (w ∷ ws) r zero (suc j) d le lt =
-    let later = rises_at w.scn ws j d r.1 (omega arith) in
-    omega arith
-rises_in_order prev (w ∷ ws) r (suc i) zero d le lt = absurd (omega arith)
-rises_in_order prev (w ∷ ws) r (suc i) (suc j) d le lt = rises_in_order w.scn ws r.1 i j d (omega arith) (omega arith)
+use Rattle.bus_types.proofs.Stretches.{Rises, between_in, between_above, rises_before, between_is_part, between_all, between_none, between-split}
 
 -- the place that parts the windows at or below an SCN from those above it is their number
 pub place_is : (prev : ℕ) (ws : List Span) (scn i : ℕ) → Rises prev ws → i ≤ length ws → IsPartitionPoint (λ (w : Span). leb w.scn scn ≡ true) (λ (w : Span). leb w.scn scn ≡ false) ws i → i ≡ length (windows_between 0 scn ws)

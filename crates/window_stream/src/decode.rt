@@ -1,37 +1,9 @@
-ghost use Rattle.std.specs.Prelude.{◌≡◌, IfOk};
-ghost use Rattle.event_codec.specs.View.{event_of};
+ghost use Rattle.std.specs.Prelude.{IfOk};
 ghost use Rattle.window_stream.specs.Decode.{BeginsWithEvent, TakesEvent, IsEvents, AreEventsOf};
 
-use bus_types::{Change, Key, NoMemory, Payload};
+use bus_types::{Change, NoMemory};
 use event_codec::EventView;
 use std::alloc::Global;
-
-// The kind of a put.
-const PUT: u8 = 1;
-
-// What an event puts, if it is a put.
-fn put_of(alloc: Global, event: EventView) -> Result<Option<Payload>, NoMemory>
-    ensures { IfOk result (λ put. put ≡ (event_of event.entry).change.put) }
-{
-    if event.kind != PUT {
-        return Ok(None);
-    }
-    let Ok(payload) = Payload::new(alloc, event.payload) else {
-        return Err(NoMemory);
-    };
-    Ok(Some(payload))
-}
-
-// The change of an event.
-fn change_of(alloc: Global, event: EventView) -> Result<Change, NoMemory>
-    ensures { IfOk result (λ change. change ≡ (event_of event.entry).change) }
-{
-    Ok(Change {
-        source: event.source,
-        key: Key::Long(event.key),
-        put: put_of(alloc, event)?,
-    })
-}
 
 // Appends the change of the event that bytes begin with. What follows it is left.
 fn take_change<'a>(
@@ -43,7 +15,7 @@ fn take_change<'a>(
     ensures { IfOk result (λ rest. TakesEvent bytes.now rest.now changes.old.items changes.new.items) }
 {
     let (event, next) = EventView::at(bytes, 0).unwrap();
-    changes.push(change_of(alloc, event)?)?;
+    changes.push(event.change(alloc)?)?;
     Ok(&bytes[next..])
 }
 

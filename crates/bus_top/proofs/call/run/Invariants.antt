@@ -1,5 +1,5 @@
 use Rattle.std.proofs.Common.{◌≤◌, ◌<◌, ◌+◌, ◌-◌, length}
-use Rattle.trace_script.specs.Run.{longest_input}
+use Rattle.trace_script.specs.Input.{longest_input}
 use Rattle.bus_top.specs.Session.{IsSession, Reached}
 use Rattle.bus_top.proofs.call.run.Given as goal
 

@@ -1,4 +1,4 @@
-use Rattle.std.proofs.Common.{◌<◌, length, arith}
+use Rattle.std.proofs.Common.{◌<◌, length, refl, arith}
 use Rattle.bus_top.proofs.Turns.{stopped_reading, stopped_writing, stopped, reached_more, ended_by}
 use Rattle.bus_top.proofs.call.turn.Goals as goal
 
@@ -9,13 +9,13 @@ pub returns-then-count-eq0-clause-turned : goal.returns-then-count-eq0-clause-tu
 returns-then-count-eq0-clause-turned g c =
     let none = c.if-count-eq0.true in
     let room : 0 < length c.read.new.buf = omega (arith, c.read.auto.buf) in
-    λ first start h. ended_by c.end.result first _ _ start _ _ c.args.session.now h (rw none at c.in-Ok.ensures.bytes.0) (c.in-Ok.ensures.bytes.1 none room) c.end.ensures.ends
+    λ first start h. ended_by c.end.result first _ _ start _ _ c.args.session.now c.end.new.session.bus h (rw none at c.in-Ok.ensures.bytes.0) (c.in-Ok.ensures.bytes.1 none room) c.end.ensures.ends
 
 pub returns-in_default-write_all-clause-turned : goal.returns-in_default-write_all-clause-turned
 returns-in_default-write_all-clause-turned g c =
     let fed = rw c.clear.ensures.items at c.feed-fed.ensures in
     let wrote = rw c.deref.ensures.value at c.in_default-write_all.ensures.part in
-    λ first start h. stopped_writing first _ _ start _ _ c.feed-fed.result c.args.session.now c.feed-fed.new.self _ _ c.in_default-write_all.field-0.written h c.in-Ok.ensures.bytes.0 wrote fed
+    λ first start h. record { ended = stopped_writing first _ _ start _ _ c.feed-fed.result c.args.session.now c.feed-fed.new.self _ _ c.in_default-write_all.field-0.written h c.in-Ok.ensures.bytes.0 wrote fed; back = refl }
 
 pub returns-in-Ok-fed-clause-turned : goal.returns-in-Ok-fed-clause-turned
 returns-in-Ok-fed-clause-turned g c =

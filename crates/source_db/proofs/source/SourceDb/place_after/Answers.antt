@@ -1,8 +1,9 @@
 use Rattle.std.proofs.Common.{leb, subst, sym, ◌∙◌, rules, tests}
 use Rattle.std.proofs.lemmas.List.Sorted.{IsPartitionPoint-from_clause, IsPartitionedBy-leb}
 use Rattle.bus_types.specs.Window.{Span}
+use Rattle.bus_types.proofs.Places.{rises_in_order}
 use Rattle.bus_types.proofs.Stretches.{timeline_rises}
-use Rattle.source_db.proofs.Places.{rises_in_order, place_is}
+use Rattle.source_db.proofs.Places.{place_is}
 use Rattle.source_db.proofs.source.SourceDb.place_after.Goals as goal
 
 pub returns-clause-place : goal.returns-clause-place

@@ -1,5 +1,0 @@
-use Rattle.bus_top.proofs.Sound.{sound_new}
-use Rattle.bus_top.proofs.bus.Bus.new.Goals as goal
-
-pub returns-clause-sound : goal.returns-clause-sound
-returns-clause-sound c = sound_new c.new.result c.in_ok-new.field-0 c.new-3.result 16777216 4096 c.new.ensures c.in_ok-new.ensures c.new-3.ensures.items
