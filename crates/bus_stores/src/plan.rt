@@ -2,6 +2,7 @@ ghost use Rattle.std.specs.Prelude.{◌≡◌, ◌≤◌, IfOk};
 ghost use Rattle.bus_stores.specs.Memory.{next_count, stop_at, listed_stop};
 
 use crate::keeper::{Stop, StoreFault};
+use crate::log::LogFault;
 use bus_types::NoMemory;
 use std::alloc::Global;
 
@@ -51,13 +52,31 @@ impl Plan {
         listed_stop(&self.fails, call)
     }
 
+    // Counts a fault.
+    fn count_fault(&mut self)
+        ensures counted { self.new ≡ record self.old { faults = next_count self.old.faults } }
+        ensures later { self.old.faults ≤ self.new.faults }
+    {
+        self.faults = self.faults.saturating_add(1);
+    }
+
+    /// Counts a fault of a log.
+    pub fn log_fault(&mut self) -> LogFault
+        ensures fault { result ≡ LogFault.Failed }
+        ensures counted { self.new ≡ record self.old { faults = next_count self.old.faults } }
+        ensures later { self.old.faults ≤ self.new.faults }
+    {
+        self.count_fault();
+        LogFault::Failed
+    }
+
     /// Counts a fault.
     pub fn fault(&mut self) -> StoreFault
         ensures fault { result ≡ StoreFault.Failed }
         ensures counted { self.new ≡ record self.old { faults = next_count self.old.faults } }
         ensures later { self.old.faults ≤ self.new.faults }
     {
-        self.faults = self.faults.saturating_add(1);
+        self.count_fault();
         StoreFault::Failed
     }
 }
