@@ -1,0 +1,4 @@
+pub mod Boot
+pub mod Opening
+pub mod Logging
+pub mod Moving

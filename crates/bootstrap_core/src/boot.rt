@@ -1,0 +1,184 @@
+ghost use Rattle.std.specs.Prelude.{◌≡◌, List, IfOk, IfErr};
+ghost use Rattle.bus_types.specs.Change.{Test};
+ghost use Rattle.bus_types.specs.Window.{Span};
+ghost use Rattle.bus_wire.specs.Questions.{Question, Reply};
+ghost use Rattle.bus_wire.specs.True.{boot_reply};
+ghost use Rattle.bus_stores.specs.Keeper.{SameStore};
+ghost use Rattle.snapshot_applier.specs.declared.boot.BootMark.{BootMark};
+ghost use Rattle.bootstrap_core.specs.Boot.{told, numbers, Stands, StandsForBoot};
+ghost use Rattle.bootstrap_core.specs.Opening.{IsOpened, OpensNot};
+
+use crate::fault::BootOpen;
+use bus_stores::{Keeper, StoreFault, WindowLog};
+use bus_types::MarkText;
+use event_codec::Answer;
+use snapshot_applier::{BootMark, BootTextFault, read_boot};
+use std::alloc::Global;
+use std::marker::Model;
+
+/// A bootstrap: a log of windows longer than the relay's, and a keeper of the source's table at the SCN `applied`. The log
+/// has at least the windows with `base < SCN <= high`, and `base <= applied <= high`. Contracts see log, keeper, boot mark
+/// and whether it is halted.
+#[derive(Debug, Drop)]
+pub struct Boot<G: WindowLog, K: Keeper> {
+    pub(crate) log: G,
+    pub(crate) keeper: K,
+    pub(crate) mark: BootMark,
+    pub(crate) halted: bool,
+}
+
+impl<G: WindowLog, K: Keeper> Model for Boot<G, K> {
+    ghost use Rattle.std.specs.Prelude.{◌≡◌, false};
+    ghost use Rattle.snapshot_applier.specs.BootMark.{IsBootMark};
+    ghost use Rattle.bootstrap_core.specs.Boot.{BootParts, IsBetween};
+
+    ghost Value = { BootParts G K };
+
+    ghost view = { λ b. record { log = b.log; keeper = b.keeper; mark = b.mark; halted = b.halted } };
+
+    ghost invariant = { λ b. IsBootMark b.mark × (b.halted ≡ false → IsBetween (G.state b.log) b.mark) };
+}
+
+impl<G: WindowLog, K: Keeper> Boot<G, K> {
+    /// Opens a bootstrap over a log and a keeper, at the boot mark that the keeper stores, or at base 0 and applied 0 where
+    /// it stores none. The first fault that applies comes: `StoreFailed` only where the keeper's count rose, `BadMark`
+    /// exactly where the stored text is no boot mark's, `Ahead` exactly where applied is above the log's newest window, and
+    /// `Hole` exactly where the log begins above base.
+    pub fn open(alloc: Global, log: G, keeper: K) -> Result<Boot<G, K>, (BootOpen, G, K)>
+        ensures opened { IfOk result (λ boot. IsOpened (G.state log) (K.state keeper) (told G.state K.state boot)) }
+        ensures log { IfOk result (λ boot. boot.log ≡ log) }
+        ensures fault { IfErr result (λ e. OpensNot e.0 (G.state log) (K.state keeper) (K.state e.2)) }
+        ensures back { IfErr result (λ e. (e.1 ≡ log) × SameStore (K.state keeper) (K.state e.2)) }
+
+        // Log and keeper of a bootstrap that stood for a timeline give one that does, at the same numbers.
+        ensures stands { (ws : List Span) (mark : BootMark) → StandsForBoot ws (G.state log) (K.state keeper) mark →
+            IfOk result (λ boot. (boot.mark ≡ mark) × Stands ws (told G.state K.state boot)) }
+    {
+        let mut keeper = keeper;
+        let mark = match stored_mark(alloc, &mut keeper) {
+            Ok(mark) => mark,
+            Err(fault) => return Err((fault, log, keeper)),
+        };
+        match place_fault(&log, &mark) {
+            Some(fault) => Err((fault, log, keeper)),
+            None => Ok(Boot {
+                log,
+                keeper,
+                mark,
+                halted: false,
+            }),
+        }
+    }
+
+    /// The SCN behind which the log is sure to begin.
+    pub fn base(&self) -> u64
+        ensures { result ≡ self.now.mark.base }
+    {
+        self.mark.base
+    }
+
+    /// The SCN up to which windows were applied.
+    pub fn applied(&self) -> u64
+        ensures { result ≡ self.now.mark.applied }
+    {
+        self.mark.applied
+    }
+
+    /// The SCN of the log's newest window.
+    pub fn high(&self) -> u64
+        ensures { result ≡ (G.state self.now.log).high }
+    {
+        self.log.high()
+    }
+
+    /// Whether it has met a fault of its log or its keeper, and so does nothing more.
+    pub fn is_halted(&self) -> bool
+        ensures { result ≡ self.now.halted }
+    {
+        self.halted
+    }
+
+    /// How a consumer that has followed up to `since` is to start again; afresh where it gives up its rows.
+    pub fn start(&self, since: u64, fresh: bool) -> Answer
+        ensures { (ws : List Span) (test : Test) → boot_reply ws test (numbers (G.state self.now.log) self.now.mark) (Question.Start since fresh) ≡ Reply.Only result }
+    {
+        let high = self.log.high();
+        if fresh {
+            return if high < since {
+                Answer::Behind(high)
+            } else {
+                Answer::StartSnapshot(self.mark.applied)
+            };
+        }
+        if high <= since {
+            Answer::Behind(high)
+        } else if self.mark.base <= since {
+            Answer::StartDelta(high)
+        } else {
+            Answer::StartSnapshot(self.mark.applied)
+        }
+    }
+
+    /// Up to where a scan that began at `start` is to be replayed, at least up to `atleast`.
+    pub fn target(&self, start: u64, atleast: u64) -> Answer
+        ensures { (ws : List Span) (test : Test) → boot_reply ws test (numbers (G.state self.now.log) self.now.mark) (Question.Target start atleast) ≡ Reply.Only result }
+    {
+        let high = self.log.high();
+        if self.mark.base > start {
+            Answer::LogGone(self.mark.base)
+        } else if high < start || high < atleast {
+            Answer::Behind(high)
+        } else {
+            Answer::Target(high)
+        }
+    }
+
+    /// Its log and its keeper. It takes no memory.
+    pub fn parts(self) -> (G, K)
+        ensures log { result.0 ≡ self.log }
+        ensures keeper { result.1 ≡ self.keeper }
+    {
+        (self.log, self.keeper)
+    }
+}
+
+// The boot mark that a keeper stores.
+fn stored_mark<K: Keeper>(alloc: Global, keeper: &mut K) -> Result<BootMark, BootOpen> {
+    match keeper.mark(alloc) {
+        Ok(None) => Ok(BootMark {
+            base: 0,
+            applied: 0,
+        }),
+        Ok(Some(text)) => mark_of(alloc, &text),
+        Err(StoreFault::Failed) => Err(BootOpen::StoreFailed),
+        Err(StoreFault::NoMemory) => Err(BootOpen::NoMemory),
+    }
+}
+
+// The boot mark of a text.
+fn mark_of(alloc: Global, text: &MarkText) -> Result<BootMark, BootOpen> {
+    match read_boot(alloc, text) {
+        Ok(mark) => Ok(mark),
+        Err(BootTextFault::BadMark) => Err(BootOpen::BadMark),
+        Err(BootTextFault::NoMemory) => Err(BootOpen::NoMemory),
+    }
+}
+
+// Why a boot mark doesn't lie between the ends of a log.
+fn place_fault<G: WindowLog>(log: &G, mark: &BootMark) -> Option<BootOpen> {
+    let high = log.high();
+    if mark.applied > high {
+        return Some(BootOpen::Ahead {
+            applied: mark.applied,
+            high,
+        });
+    }
+    let floor = log.floor();
+    if floor > mark.base {
+        return Some(BootOpen::Hole {
+            base: mark.base,
+            floor,
+        });
+    }
+    None
+}
