@@ -8,7 +8,10 @@ use Rattle.bus_types.specs.Relay.{Relay, StandsFor}
 use Rattle.partition_filter.specs.Selection.{test_of}
 use Rattle.checkpoint.specs.declared.mark.Mark.{Mark}
 use Rattle.checkpoint.specs.declared.mark.Mark.TheVariants.{Online, Delta, Snapshot, Scanned, Catchup}
-use Rattle.bus_stores.specs.Memory.{MemoryStore, last_mark}
+use Rattle.bus_stores.specs.Memory.{MemoryStore, last_mark, told_by}
+use Rattle.bus_stores.specs.MemoryLog.{MemoryWindows, log_of}
+use Rattle.bus_wire.specs.True.{Boot}
+use Rattle.bootstrap_core.specs.Boot.{BootParts, told, numbers, Stands}
 use Rattle.client_switch.specs.Moves.{Wish}
 use Rattle.client_switch.specs.Moves.Wish.{NoWish, StartWish, FreshWish}
 use Rattle.client_switch.specs.Good.{Good}
@@ -17,8 +20,8 @@ use Rattle.trace_script.specs.declared.line.Line.{Line}
 use Rattle.trace_script.specs.declared.line.Line.TheVariants.{Show}
 use Rattle.history_core.specs.declared.fault.StepFault.{StepFault}
 use Rattle.history_core.specs.declared.fault.StepFault.TheVariants.{BadLine, WriteFault, NoMemory}
-use Rattle.history_core.specs.Script.{Follower, State, new_boot}
-use Rattle.history_core.specs.Steps.{Step, place_of}
+use Rattle.history_core.specs.Script.{Follower, State}
+use Rattle.history_core.specs.Steps.{Step, place_of, most_commits}
 
 -- ---- what a bus is to a contract
 
@@ -29,12 +32,13 @@ pub record MemberState : Type 0 where
   pub store : MemoryStore
   pub shows : ℕ
 
--- whether a line that isn't blank has come, the windows of the source, the relay, and the consumers in the order in which they
--- were declared
+-- whether a line that isn't blank has come, the windows of the source, the relay, the bootstrap over a log and a keeper in
+-- memory, and the consumers in the order in which they were declared
 pub record Parts : Type 0 where
   pub begun : Bool
   pub source : List Span
   pub relay : Relay
+  pub boot : BootParts MemoryWindows MemoryStore
   pub members : List MemberState
 
 -- a consumer without its rows
@@ -44,9 +48,13 @@ follower m = record { name = m.name; filter = m.client.filter; mark = m.client.m
 abbrev pub followers : List MemberState → List Follower
 followers ms = map follower ms
 
+-- the numbers of a bootstrap in memory
+abbrev pub boot_numbers : BootParts MemoryWindows MemoryStore → Boot
+boot_numbers b = numbers (log_of b.log) b.mark
+
 -- the state of the script whose bus it is
 abbrev pub state_of : Parts → State
-state_of b = record { begun = b.begun; windows = b.source; room = b.relay.room; end = b.relay.tail; boot = new_boot; consumers = followers b.members }
+state_of b = record { begun = b.begun; windows = b.source; room = b.relay.room; end = b.relay.tail; boot = boot_numbers b.boot; consumers = followers b.members }
 
 -- ---- when a bus is sound
 
@@ -70,10 +78,21 @@ pub record IsMember (ws : List Span) (m : MemberState) : Type 0 where
   pub shown : m.shows ≤ m.store.calls
   pub reached : IsReached m.client.mark m.client.wish
 
--- a bus between two lines: its relay keeps the source's windows behind its floor, up to its end, and its consumers follow the
--- source. Where no line has come that isn't blank, nothing was committed or declared
+-- the bootstrap stands for the source, has met no fault, and its log, which has room for anything, and its keeper fail at no call
+pub record IsBooted (ws : List Span) (b : BootParts MemoryWindows MemoryStore) : Type 0 where
+  pub stands : Stands ws (told log_of told_by b)
+  pub runs : b.halted ≡ false
+  pub log_sound : b.log.fails ≡ []
+  pub roomy : b.log.limit ≡ 18446744073709551615
+  pub keeper_sound : b.keeper.fails ≡ []
+  pub unarmed : b.keeper.armed ≡ None
+
+-- a bus between two lines: its relay keeps the source's windows behind its floor, up to its end, its bootstrap stands for
+-- the source, and its consumers follow it. Where no line has come that isn't blank, nothing was committed or declared
 pub record IsSound (b : Parts) : Type 0 where
+  pub few : length b.source ≤ most_commits
   pub relay : StandsFor b.source b.relay
+  pub boot : IsBooted b.source b.boot
   pub members : AllByRecursion (IsMember b.source) b.members
   pub untouched : b.begun ≡ false → (b.source ≡ []) × (b.members ≡ [])
 

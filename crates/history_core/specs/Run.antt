@@ -6,12 +6,12 @@ use Rattle.checkpoint.specs.Mark.{floor_of}
 use Rattle.bus_stores.specs.Memory.{stop_at}
 use Rattle.partition_filter.specs.Selection.{test_of}
 use Rattle.trace_script.specs.declared.line.Line.{Line}
-use Rattle.trace_script.specs.declared.line.Line.TheVariants.{Blank, Relay, Consumer, Commit, Feed, Poll, Crash, Stop, Show, Stream}
+use Rattle.trace_script.specs.declared.line.Line.TheVariants.{Blank, Relay, Consumer, Commit, Feed, Log, Apply, Trim, RestartBoot, Poll, Crash, Stop, Show, Stream}
 use Rattle.trace_script.specs.Lines.{line_of}
 use Rattle.trace_script.specs.Spelling.{is_in_range}
 use Rattle.trace_script.specs.Input.{RawLine, lines_of, is_too_long}
 use Rattle.history_core.specs.Script.{Follower, State, start}
-use Rattle.history_core.specs.Steps.{Step, begin, relay_step, consumer_step, commit_step, feed_step, stream_step, poll_step, crash_step, stop_step, show_step}
+use Rattle.history_core.specs.Steps.{Step, begin, relay_step, consumer_step, commit_step, feed_step, stream_step, log_step, apply_step, trim_step, restart_step, poll_step, crash_step, stop_step, show_step}
 
 -- what a line does whose numbers are in their ranges; a blank one does nothing, and any other begins the script
 abbrev pub act : State → Line → Step
@@ -20,6 +20,10 @@ act s (Relay bytes windows) = begin (relay_step s bytes windows)
 act s (Consumer name filter) = begin (consumer_step s name filter)
 act s (Commit scn changes) = begin (commit_step s scn changes)
 act s (Feed count) = begin (feed_step s count)
+act s (Log count) = begin (log_step s count)
+act s (Apply count) = begin (apply_step s count)
+act s (Trim scn) = begin (trim_step s scn)
+act s RestartBoot = begin (restart_step s)
 act s (Poll name max) = begin (poll_step s name max)
 act s (Crash name) = begin (crash_step s name)
 act s (Stop name after) = begin (stop_step s name (stop_at after))

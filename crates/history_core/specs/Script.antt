@@ -66,6 +66,12 @@ line_with word n = word ++ codes " " ++ decimal n ++ codes "\n"
 abbrev pub relay_line : ℕ → ℕ → List ℕ
 relay_line floor end = codes "relay " ++ decimal floor ++ codes " " ++ decimal end ++ codes "\n"
 
+abbrev pub gap_line : ℕ → List ℕ
+gap_line floor = line_with (codes "gap") floor
+
+abbrev pub boot_line : Boot → List ℕ
+boot_line b = codes "boot " ++ decimal b.base ++ codes " " ++ decimal b.applied ++ codes " " ++ decimal b.high ++ codes "\n"
+
 abbrev pub served_line : ℕ → ℕ → List ℕ → ℕ → List ℕ
 served_line count bytes word scn = codes "served " ++ decimal count ++ codes " " ++ decimal bytes ++ word ++ decimal scn ++ codes "\n"
 

@@ -12,12 +12,14 @@ use Rattle.bus_stores.specs.Memory.{next_count}
 use Rattle.checkpoint.specs.declared.mark.Mark.{Mark}
 use Rattle.checkpoint.specs.declared.mark.Mark.TheVariants.{Online}
 use Rattle.checkpoint.specs.Mark.{mark_text}
+use Rattle.event_codec.specs.declared.answer.Answer.TheVariants.{NotFound, Empty, TooSmall, Behind, LogGone, StartDelta, StartSnapshot, Target as GoTo}
 use Rattle.bus_wire.specs.Questions.{Question, Reply}
+use Rattle.bus_wire.specs.Questions.Reply.{Windows, Rows, Changes, Only}
 use Rattle.client_switch.specs.Moves.{Turn, question, turn}
 use Rattle.client_switch.specs.Moves.Wish.{NoWish}
 use Rattle.bus_wire.specs.Questions.Question.{Stream, Start, Scan, Target, Catchup, Delta}
 use Rattle.bus_wire.specs.True.{Boot, reply_of, boot_reply}
-use Rattle.history_core.specs.Script.{Follower, State, floor, relay_line, stream_line, reply_line, stopped_line, shown}
+use Rattle.history_core.specs.Script.{Follower, State, floor, relay_line, gap_line, boot_line, stream_line, reply_line, stopped_line, shown}
 
 -- what a line leaves: the state after it and the text that it prints, or nothing where it is against a rule
 abbrev pub Step : Type 0
@@ -88,6 +90,38 @@ feed_step s count = let next = record s { end = fed s count } in Some (next, rel
 unfoldable pub stream_step : State → ℕ → Test → ℕ → Step
 stream_step s scn test max = Some (s, stream_line (stream s.windows (floor s) s.end scn test max))
 
+-- ---- the bootstrap
+
+-- the bootstrap has other numbers, which are printed
+abbrev pub booted : State → Boot → State × List ℕ
+booted s b = (record s { boot = b }, boot_line b)
+
+-- the SCN of the newest logged window after so many more of the windows that the relay published were logged, or those there are
+abbrev pub logged : State → ℕ → ℕ
+logged s count = end_from s.boot.high (take count (windows_between s.boot.high s.end s.windows))
+
+-- where the relay has evicted windows that weren't logged, it says so
+unfoldable pub log_step : State → ℕ → Step
+log_step s count = Some (if nat_lt s.boot.high (floor s) then (s, gap_line (floor s)) else booted s (record s.boot { high = logged s count }))
+
+-- the SCN up to which windows are applied after so many more of the logged ones were, or those there are
+abbrev pub applied : State → ℕ → ℕ
+applied s count = end_from s.boot.applied (take count (windows_between s.boot.applied s.boot.high s.windows))
+
+unfoldable pub apply_step : State → ℕ → Step
+apply_step s count = Some (booted s (record s.boot { applied = applied s count }))
+
+-- the SCN of the newest window that is neither above the one asked nor above applied, where it is above base, else base
+abbrev pub trimmed : State → ℕ → ℕ
+trimmed s scn = end_from s.boot.base (windows_between s.boot.base (min scn s.boot.applied) s.windows)
+
+unfoldable pub trim_step : State → ℕ → Step
+trim_step s scn = Some (booted s (record s.boot { base = trimmed s scn }))
+
+-- a bootstrap that is opened again from its log and its keeper has the same numbers
+unfoldable pub restart_step : State → Step
+restart_step s = Some (booted s s.boot)
+
 -- ---- polls
 
 -- the reply to who asks for the rows of a test, of a relay that evicted the windows up to floor and published those up to end,
@@ -122,12 +156,35 @@ turned c t text = if t.commits then committed c.armed c t text else (record c { 
 abbrev pub after_reply : Follower → Reply → Follower × List ℕ
 after_reply c reply = turned c (turn c.mark reply) (reply_line reply)
 
+-- whether it is built what a consumer does behind a reply; it isn't yet behind a beginning anew
+abbrev pub is_followed : Reply → Bool
+is_followed (Windows ws) = true
+is_followed (Rows cs scn more) = true
+is_followed (Changes cs scn more) = true
+is_followed (Only (NotFound floor)) = true
+is_followed (Only (Empty end)) = true
+is_followed (Only (TooSmall need)) = true
+is_followed (Only (Behind high)) = true
+is_followed (Only (LogGone base)) = false
+is_followed (Only (StartDelta high)) = false
+is_followed (Only (StartSnapshot applied)) = false
+is_followed (Only (GoTo target)) = true
+
+-- what a consumer makes of a reply, where that is built
+abbrev pub followed : Follower → Reply → Option (Follower × List ℕ)
+followed c reply = if is_followed reply then Some (after_reply c reply) else None
+
 -- one ask of a consumer, and its reply
-abbrev pub asked : State → Follower → ℕ → Follower × List ℕ
-asked s c max = after_reply c (replied s.windows (floor s) s.end s.boot (test_of c.filter) (question c.mark c.wish max))
+abbrev pub asked : State → Follower → ℕ → Option (Follower × List ℕ)
+asked s c max = followed c (replied s.windows (floor s) s.end s.boot (test_of c.filter) (question c.mark c.wish max))
+
+-- what a line does that names a consumer, by its place, where the consumer lets it; else nothing
+abbrev pub at_name_if : State → List ℕ → (Follower → Option (Follower × List ℕ)) → Step
+at_name_if s name act =
+    option_and_then (λ i. option_and_then (λ c. option_map (λ a. (with_consumer s i a.0, a.1)) (act c)) (slice_get s.consumers i)) (place_of name s.consumers)
 
 unfoldable pub poll_step : State → List ℕ → ℕ → Step
-poll_step s name max = at_name s name (λ i c. let a = asked s c max in (with_consumer s i a.0, a.1))
+poll_step s name max = at_name_if s name (λ c. asked s c max)
 
 -- ---- crashes, stops and tables
 
