@@ -1,27 +1,32 @@
 -- What the parts of a step do, before what it prints is written.
-use Rattle.std.specs.Prelude.{◌≡◌, ℕ, ◌≤◌, false, List, [], take, length, codes, Some, None, Result, Ok, Err, Vec}
+use Rattle.std.specs.Prelude.{◌≡◌, ℕ, ◌≤◌, true, false, List, [], take, length, codes, Some, None, Result, Ok, Err, Vec}
 use Rattle.std.specs.Global.{Global}
 use Rattle.std.specs.List.{AllByRecursion}
+use Rattle.bus_types.specs.Change.{Test}
 use Rattle.bus_types.specs.Window.{Span}
 use Rattle.bus_types.specs.Timeline.{end_of, end_from, windows_between}
 use Rattle.bus_types.specs.Relay.{Relay, StandsFor, answer_of}
 use Rattle.partition_filter.specs.Selection.{test_of}
-use Rattle.event_codec.specs.declared.answer.Answer.TheVariants.{Behind}
+use Rattle.event_codec.specs.declared.answer.Answer.{Answer}
 use Rattle.event_codec.specs.declared.reply.Shape.{Shape}
 use Rattle.event_codec.specs.declared.reply.Shape.TheVariants.{Windows, Rows, Changes, Only}
 use Rattle.event_codec.specs.Frames.{answer_bytes}
 use Rattle.event_codec.specs.Reply.{reply_bytes}
 use Rattle.bus_wire.specs.declared.ask.Ask.{Ask}
 use Rattle.bus_wire.specs.declared.ask.Ask.TheVariants.{Stream, Start}
+use Rattle.bus_wire.specs.Questions.{Reply}
+use Rattle.bus_wire.specs.Questions.Question.{Start as Begin}
+use Rattle.bus_wire.specs.Questions.Reply.{Only as Alone}
+use Rattle.bus_wire.specs.True.{Boot, boot_reply}
 use Rattle.bus_stores.specs.Memory.{MemoryStore, last_mark}
 use Rattle.client_switch.specs.Moves.{question}
 use Rattle.client_switch.specs.Moves.Wish.{NoWish}
 use Rattle.client_switch.specs.Client.{IsStored}
 use Rattle.history_core.specs.declared.fault.StepFault.{StepFault}
 use Rattle.history_core.specs.declared.fault.StepFault.TheVariants.{BadLine, WriteFault, NoMemory}
-use Rattle.history_core.specs.Script.{Follower, new_boot, shown, served_line, answer_line}
-use Rattle.history_core.specs.Steps.{Step, replied, after_reply, looked_at}
-use Rattle.history_core.specs.Bus.{MemberState, Parts, follower, state_of, IsMember, IsSound, WasCalled}
+use Rattle.history_core.specs.Script.{Follower, shown, served_line, answer_line}
+use Rattle.history_core.specs.Steps.{Step, most_commits, replied, is_followed, followed, looked_at}
+use Rattle.history_core.specs.Bus.{MemberState, Parts, follower, state_of, IsMember, IsBooted, IsSound, WasCalled}
 
 -- ---- consumers
 
@@ -48,10 +53,15 @@ pub record Becomes (ws : List Span) (next : Follower) (new : MemberState) : Type
   pub follows : follower new ≡ next
   pub member : IsMember ws new
 
--- the bytes of the reply to an ask: the relay's, or that of a bootstrap that has logged nothing
-abbrev pub sent : Relay → Ask → List ℕ
-sent r (Stream scn filter most) = reply_bytes (answer_of r scn (test_of filter) most)
-sent r (Start since fresh) = answer_bytes (Behind 0)
+-- the bytes of the reply to an ask: the relay's, or the bootstrap's
+abbrev pub IsSent : Relay → Boot → Ask → List ℕ → Type 0
+IsSent r boot (Stream scn filter most) bytes = bytes ≡ reply_bytes (answer_of r scn (test_of filter) most)
+IsSent r boot (Start since fresh) bytes = (answer : Answer) × ((ws : List Span) (test : Test) → boot_reply ws test boot (Begin since fresh) ≡ Alone answer) × (bytes ≡ answer_bytes answer)
+
+-- it is built what a consumer does behind the reply to its ask
+abbrev pub IsAnswered : Boot → Ask → Type 0
+IsAnswered boot (Stream scn filter most) = Unit {0}
+IsAnswered boot (Start since fresh) = (ws : List Span) (test : Test) → is_followed (boot_reply ws test boot (Begin since fresh)) ≡ true
 
 -- what a poll prints of a reply of this shape, with so many bytes
 abbrev pub shape_line : Shape → ℕ → List ℕ
@@ -60,10 +70,16 @@ shape_line (Rows count scn more) bytes = []
 shape_line (Changes count more) bytes = []
 shape_line (Only answer) bytes = answer_line answer
 
--- a consumer asked a relay that follows these windows, in at most so many bytes, and took the reply
-pub record Polls (ws : List Span) (r : Relay) (most : ℕ) (old new : MemberState) (text : List ℕ) : Type 0 where
-  pub turn : (follower new, text) ≡ after_reply (follower old) (replied ws r.floor r.tail new_boot (test_of old.client.filter) (question old.client.mark old.client.wish most))
-  pub member : IsMember ws new
+-- the reply to a consumer of these windows that asks a relay and a bootstrap for at most so many bytes
+abbrev pub replied_to : List Span → Relay → Boot → ℕ → MemberState → Reply
+replied_to ws r boot most m = replied ws r.floor r.tail boot (test_of m.client.filter) (question m.client.mark m.client.wish most)
+
+-- a consumer asked, and took the reply where it is built what it does then
+abbrev pub Polls : List Span → Relay → Boot → ℕ → Result (Vec ℕ Global) StepFault → MemberState → MemberState → Type 0
+Polls ws r boot most (Ok text) old new = (followed (follower old) (replied_to ws r boot most old) ≡ Some (follower new, text.items)) × IsMember ws new
+Polls ws r boot most (Err BadLine) old new = (followed (follower old) (replied_to ws r boot most old) ≡ None) × (new ≡ old)
+Polls ws r boot most (Err (WriteFault count)) old new = ⊥
+Polls ws r boot most (Err NoMemory) old new = Unit {0}
 
 -- a consumer was shown
 pub record Shows (ws : List Span) (old new : MemberState) (text : List ℕ) : Type 0 where
@@ -76,7 +92,9 @@ pub record Shows (ws : List Span) (old new : MemberState) (text : List ℕ) : Ty
 
 -- a bus at work, whether a line that isn't blank has come or not
 pub record IsWorking (b : Parts) : Type 0 where
+  pub few : length b.source ≤ most_commits
   pub relay : StandsFor b.source b.relay
+  pub boot : IsBooted b.source b.boot
   pub members : AllByRecursion (IsMember b.source) b.members
 
 -- what a line does, against the state and the text that are defined for it, before it is kept that a line has come

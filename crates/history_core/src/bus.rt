@@ -6,11 +6,12 @@ ghost use Rattle.bus_stores.specs.Memory.{stop_at};
 ghost use Rattle.trace_script.specs.declared.line.Line.{Line};
 ghost use Rattle.trace_script.specs.Spelling.{is_in_range};
 ghost use Rattle.history_core.specs.Script.{start};
-ghost use Rattle.history_core.specs.Steps.{Step, begin, place_of, relay_step, consumer_step, commit_step, feed_step, stream_step, poll_step, crash_step, stop_step, show_step};
+ghost use Rattle.history_core.specs.Steps.{Step, begin, place_of, relay_step, consumer_step, commit_step, feed_step, log_step, apply_step, trim_step, restart_step, stream_step, poll_step, crash_step, stop_step, show_step};
 ghost use Rattle.history_core.specs.Run.{act, line_step};
 ghost use Rattle.history_core.specs.Bus.{Parts, state_of, followers, IsSound, Steps, OnWriteFault, Calls};
 ghost use Rattle.history_core.specs.Acting.{Acts, Does, Publishes};
 
+use crate::boot::{MemoryBoot, apply_windows, log_windows, new_boot, restart, trim};
 use crate::fault::StepFault;
 use crate::member::Member;
 use crate::text;
@@ -39,6 +40,7 @@ pub struct Bus {
     begun: bool,
     source: SourceDb,
     relay: PlainBuffer,
+    boot: MemoryBoot,
     members: Vec<Member>,
     /// Empty, with room for each consumer's keeper.
     room: Vec<MemoryKeeper>,
@@ -51,7 +53,7 @@ impl Model for Bus {
 
     ghost Value = { Parts };
 
-    ghost view = { λ b. record { begun = b.begun; source = b.source; relay = b.relay; members = b.members.items } };
+    ghost view = { λ b. record { begun = b.begun; source = b.source; relay = b.relay; boot = b.boot; members = b.members.items } };
 
     ghost invariant = { λ b. (b.room.items ≡ []) × (length b.members.items ≤ vec_capacity b.room) };
 }
@@ -71,6 +73,7 @@ impl Bus {
             begun: false,
             source: SourceDb::new(alloc),
             relay: PlainBuffer::new(alloc, bytes, windows)?,
+            boot: new_boot(alloc)?,
             members: Vec::new(alloc),
             room: Vec::new(alloc),
         })
@@ -141,6 +144,22 @@ impl Bus {
             }
             Line::Feed(count) => {
                 let done = self.feed(alloc, *count);
+                self.begin(done)
+            }
+            Line::Log(count) => {
+                let done = self.log(alloc, *count);
+                self.begin(done)
+            }
+            Line::Apply(count) => {
+                let done = self.apply(alloc, *count);
+                self.begin(done)
+            }
+            Line::Trim(scn) => {
+                let done = self.trim(alloc, *scn);
+                self.begin(done)
+            }
+            Line::RestartBoot => {
+                let done = self.restart_boot(alloc);
                 self.begin(done)
             }
             Line::Stream { scn, filter, max } => {
@@ -243,6 +262,49 @@ impl Bus {
         Ok(text::relay(alloc, self.relay.floor(), self.relay.tail())?.into_bytes())
     }
 
+    // The bootstrap logs the next windows that the relay keeps.
+    #[tactic(auto, unfolding(crate::specs::Steps::log_step))]
+    fn log(&mut self, alloc: Global, count: u64) -> Result<Vec<u8>, StepFault>
+        requires { IsSound self.old }
+        ensures { Acts result (log_step (state_of self.old) count) self.old self.new }
+    {
+        if self.boot.high() < self.relay.floor() {
+            return Ok(text::gap(alloc, self.relay.floor())?.into_bytes());
+        }
+        log_windows(alloc, &self.relay, &mut self.boot, count)?;
+        Ok(text::boot(alloc, &self.boot)?.into_bytes())
+    }
+
+    // The bootstrap applies the next logged windows.
+    #[tactic(auto, unfolding(crate::specs::Steps::apply_step))]
+    fn apply(&mut self, alloc: Global, count: u64) -> Result<Vec<u8>, StepFault>
+        requires { IsSound self.old }
+        ensures { Acts result (apply_step (state_of self.old) count) self.old self.new }
+    {
+        apply_windows(alloc, &mut self.boot, count)?;
+        Ok(text::boot(alloc, &self.boot)?.into_bytes())
+    }
+
+    // The bootstrap's log may drop windows.
+    #[tactic(auto, unfolding(crate::specs::Steps::trim_step))]
+    fn trim(&mut self, alloc: Global, scn: u64) -> Result<Vec<u8>, StepFault>
+        requires { IsSound self.old }
+        ensures { Acts result (trim_step (state_of self.old) scn) self.old self.new }
+    {
+        trim(alloc, &mut self.boot, scn)?;
+        Ok(text::boot(alloc, &self.boot)?.into_bytes())
+    }
+
+    // The bootstrap is opened again.
+    #[tactic(auto, unfolding(crate::specs::Steps::restart_step))]
+    fn restart_boot(&mut self, alloc: Global) -> Result<Vec<u8>, StepFault>
+        requires { IsSound self.old }
+        ensures { Acts result (restart_step (state_of self.old)) self.old self.new }
+    {
+        restart(alloc, &mut self.boot)?;
+        Ok(text::boot(alloc, &self.boot)?.into_bytes())
+    }
+
     // What the relay answers to who isn't a consumer.
     #[tactic(auto, unfolding(crate::specs::Steps::stream_step))]
     fn stream(
@@ -270,7 +332,7 @@ impl Bus {
             return Err(StepFault::BadLine);
         };
         let member = &mut self.members[i];
-        Ok(member.poll(alloc, &self.relay, max)?)
+        member.poll(alloc, &self.relay, &self.boot, max)
     }
 
     // A consumer's client is opened again.

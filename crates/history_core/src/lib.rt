@@ -4,6 +4,7 @@
 //! `trace_script` for the lines. The layer above hands each line of its input to `Bus::step`.
 #![tactic(auto)]
 
+mod boot;
 mod bus;
 mod fault;
 mod laws;

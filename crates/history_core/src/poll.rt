@@ -5,10 +5,17 @@ ghost use Rattle.checkpoint.specs.declared.mark.Mark.{Mark};
 ghost use Rattle.bus_stores.specs.Memory.{last_mark};
 ghost use Rattle.client_switch.specs.Client.{IsAskOf, IsStored, asks};
 ghost use Rattle.history_core.specs.Script.{stopped_line};
-ghost use Rattle.history_core.specs.Bus.{IsMember};
-ghost use Rattle.history_core.specs.Acting.{IsReopened, sent, Polls};
+ghost use Rattle.bus_stores.specs.Memory.{told_by};
+ghost use Rattle.bus_stores.specs.MemoryLog.{log_of};
+ghost use Rattle.bus_wire.specs.Questions.{Reply};
+ghost use Rattle.bootstrap_core.specs.Boot.{told, Stands};
+ghost use Rattle.history_core.specs.Steps.{is_followed};
+ghost use Rattle.history_core.specs.Bus.{boot_numbers, IsMember};
+ghost use Rattle.history_core.specs.Acting.{IsReopened, Polls};
 ghost use Rattle.history_core.specs.Polling.{Comes};
 
+use crate::boot::MemoryBoot;
+use crate::fault::StepFault;
 use crate::member::Member;
 use crate::text;
 use bus_stores::Stop;
@@ -21,40 +28,58 @@ use plain_buffer::PlainBuffer;
 use relay_core::relay_answer;
 use std::alloc::Global;
 
-/// The SCN that the bootstrap has come to: it has logged nothing yet.
-const BOOT_HIGH: u64 = 0;
-
-/// The bytes of the reply to an ask.
-fn answer(alloc: Global, relay: &PlainBuffer, ask: &Ask) -> Result<Vec<u8>, NoMemory>
-    ensures { IfOk result (λ reply. reply.items ≡ sent relay.now ask.now) }
+// Whether it is built what a consumer does behind this answer of the bootstrap.
+fn is_followed(answer: &Answer) -> bool
+    ensures { result ≡ is_followed (Reply.Only answer.now) }
 {
+    !matches!(
+        answer,
+        Answer::LogGone(_) | Answer::StartDelta(_) | Answer::StartSnapshot(_)
+    )
+}
+
+// The bytes of the reply to an ask, or nothing where it isn't built yet what a consumer does behind it.
+fn answer(
+    alloc: Global,
+    relay: &PlainBuffer,
+    boot: &MemoryBoot,
+    ask: &Ask,
+) -> Result<Option<Vec<u8>>, NoMemory> {
     let mut reply = Vec::new(alloc);
     match ask {
         Ask::Stream { scn, filter, max } => {
             relay_answer(alloc, relay, *scn, filter, *max, &mut reply)?;
         }
-        Ask::Start { .. } => {
-            reply.extend_from_slice(&answer_bytes(&Answer::Behind(BOOT_HIGH)))?;
+        Ask::Start { since, fresh } => {
+            let answer = boot.start(*since, *fresh);
+            if !is_followed(&answer) {
+                return Ok(None);
+            }
+            reply.extend_from_slice(&answer_bytes(&answer))?;
         }
     }
-    Ok(reply)
+    Ok(Some(reply))
 }
 
 impl Member {
     /// One ask of the relay or of the bootstrap, and what is made of the reply: at most one commit. The text is what it
-    /// prints. After want of memory it isn't used again.
+    /// prints. `BadLine` comes exactly where it isn't built yet what a consumer does behind the reply, and then nothing
+    /// changed. After want of memory it isn't used again.
     pub fn poll(
         &mut self,
         alloc: Global,
         relay: &PlainBuffer,
+        boot: &MemoryBoot,
         max: u32,
-    ) -> Result<Vec<u8>, NoMemory>
-        requires { (ws : List Span) × StandsFor ws relay.now × IsMember ws self.old }
-        ensures { IfOk result (λ text. (ws : List Span) → StandsFor ws relay.now → IsMember ws self.old → Polls ws relay.now max self.old self.new text.items) }
+    ) -> Result<Vec<u8>, StepFault>
+        requires { (ws : List Span) × StandsFor ws relay.now × Stands ws (told log_of told_by boot.now) × IsMember ws self.old }
+        ensures { (ws : List Span) → StandsFor ws relay.now → Stands ws (told log_of told_by boot.now) → IsMember ws self.old → Polls ws relay.now (boot_numbers boot.now) max result self.old self.new }
     {
         let ask = self.ask(alloc, max)?;
-        let reply = answer(alloc, relay, &ask)?;
-        self.follow(alloc, &ask, &reply)
+        let Some(reply) = answer(alloc, relay, boot, &ask)? else {
+            return Err(StepFault::BadLine);
+        };
+        Ok(self.follow(alloc, &ask, &reply)?)
     }
 
     // What its client asks.

@@ -2,9 +2,11 @@ ghost use Rattle.std.specs.Prelude.{◌≡◌, ◌++◌, map, codes, decimal, If
 ghost use Rattle.bus_types.specs.Relay as relays;
 ghost use Rattle.bus_types.specs.Rows.{pair_of};
 ghost use Rattle.event_codec.specs.Reply.{IsServed};
-ghost use Rattle.history_core.specs.Script.{relay_line, line_with, served_line, stream_line, answer_line, stopped_line, row_line, rows_text};
+ghost use Rattle.history_core.specs.Script.{relay_line, gap_line, boot_line, line_with, served_line, stream_line, answer_line, stopped_line, row_line, rows_text};
+ghost use Rattle.history_core.specs.Bus.{boot_numbers};
 ghost use Rattle.history_core.specs.Acting.{shape_line};
 
+use crate::boot::MemoryBoot;
 use bus_stores::Stop;
 use bus_types::{Key, NoMemory, Row};
 use event_codec::{Answer, Served, Shape};
@@ -15,6 +17,23 @@ pub(crate) fn relay(alloc: Global, floor: u64, end: u64) -> Result<String, NoMem
     ensures { IfOk result (λ text. string_bytes text ≡ relay_line floor end) }
 {
     Ok(format!(in alloc; "relay {floor} {end}\n")?)
+}
+
+/// What a line prints where the relay has evicted windows that weren't logged.
+pub(crate) fn gap(alloc: Global, floor: u64) -> Result<String, NoMemory>
+    ensures { IfOk result (λ text. string_bytes text ≡ gap_line floor) }
+{
+    line_with(alloc, "gap", floor)
+}
+
+/// What a line prints that moves the bootstrap.
+pub(crate) fn boot(alloc: Global, boot: &MemoryBoot) -> Result<String, NoMemory>
+    ensures { IfOk result (λ text. string_bytes text ≡ boot_line (boot_numbers boot.now)) }
+{
+    let base = boot.base();
+    let applied = boot.applied();
+    let high = boot.high();
+    Ok(format!(in alloc; "boot {base} {applied} {high}\n")?)
 }
 
 // A word and a number.
