@@ -14,14 +14,14 @@ use Rattle.bus_types.specs.Change.{IsChange, AreChanges}
 use Rattle.trace_script.specs.declared.fault.LineFault.{LineFault}
 use Rattle.trace_script.specs.declared.fault.LineFault.TheVariants.{BadLine, NoMemory}
 use Rattle.trace_script.specs.declared.line.Line.{Line}
-use Rattle.trace_script.specs.declared.line.Line.TheVariants.{Blank, Relay, Consumer, Commit, Feed, Poll, Show, Crash, Stop, Stream}
+use Rattle.trace_script.specs.declared.line.Line.TheVariants.{Blank, Relay, Consumer, Commit, Feed, Poll, Show, Crash, Stop, Stream, Log, Apply, Trim, RestartBoot}
 use Rattle.bus_types.specs.declared.limits.TheConstants.{MAX_SCN}
 use Rattle.bus_types.specs.Text.{number_of, max_u64}
 use Rattle.partition_filter.specs.Selection.{Selection}
 use Rattle.partition_filter.specs.Spelling.{IsFilter, filter_text}
 use Rattle.trace_script.specs.Words.{words_of, number_in, is_name_text, name_of, selection_of, changes_of}
-use Rattle.trace_script.specs.Lines.{is_blank, relay_of, consumer_of, commit_of, feed_of, poll_of, show_of, crash_of, when_of, stop_of, stream_of, words_line, line_of}
-use Rattle.trace_script.specs.Spelling.{IsName, IsRoom, IsLine, Spells, change_text, when_text, line_words}
+use Rattle.trace_script.specs.Lines.{is_blank, relay_of, consumer_of, commit_of, feed_of, poll_of, show_of, crash_of, when_of, stop_of, stream_of, log_of, apply_of, trim_of, restart_of, words_line, line_of}
+use Rattle.trace_script.specs.Spelling.{IsName, IsRoom, IsCount, IsLine, Spells, change_text, when_text, line_words}
 use Rattle.trace_script.specs.Reading.{Reads}
 use Rattle.bus_types.proofs.Options.{bind_some, chosen}
 use Rattle.bus_types.proofs.Numbers.{number_taken, number_again}
@@ -176,6 +176,44 @@ stream_taken (scn ∷ []) line h = cc h
 stream_taken (scn ∷ filter ∷ []) line h = cc h
 stream_taken (scn ∷ filter ∷ max ∷ more ∷ words) line h = cc h
 
+log_taken : (words : List (List ℕ)) (line : Line) → log_of words ≡ Some line → HasWords (codes "log" ∷ words) line
+unfolding log_of
+log_taken (count ∷ []) line h =
+    let number = bind_some (number_in 1 1000000 count) _ line h in
+    let whole : Log number.0 ≡ line = cc (number.2) in
+    let spelled = number_in_taken 1 1000000 number.0 count (lit< tt) number.1 in
+    rw (← whole) ((spelled.1, spelled.2), cc (spelled.0))
+log_taken [] line h = cc h
+log_taken (count ∷ more ∷ words) line h = cc h
+
+apply_taken : (words : List (List ℕ)) (line : Line) → apply_of words ≡ Some line → HasWords (codes "apply" ∷ words) line
+unfolding apply_of
+apply_taken (count ∷ []) line h =
+    let number = bind_some (number_in 1 1000000 count) _ line h in
+    let whole : Apply number.0 ≡ line = cc (number.2) in
+    let spelled = number_in_taken 1 1000000 number.0 count (lit< tt) number.1 in
+    rw (← whole) ((spelled.1, spelled.2), cc (spelled.0))
+apply_taken [] line h = cc h
+apply_taken (count ∷ more ∷ words) line h = cc h
+
+trim_taken : (words : List (List ℕ)) (line : Line) → trim_of words ≡ Some line → HasWords (codes "trim" ∷ words) line
+unfolding trim_of
+trim_taken (scn ∷ []) line h =
+    let number = bind_some (number_of MAX_SCN scn) _ line h in
+    let whole : Trim number.0 ≡ line = cc (number.2) in
+    let spelled = number_taken MAX_SCN number.0 scn (lit< tt) number.1 in
+    rw (← whole) (spelled.1, cc (spelled.0))
+trim_taken [] line h = cc h
+trim_taken (scn ∷ more ∷ words) line h = cc h
+
+restart_taken : (words : List (List ℕ)) (line : Line) → restart_of words ≡ Some line → HasWords (codes "restart" ∷ words) line
+unfolding restart_of
+restart_taken (word ∷ []) line h =
+    let boot = cond_some (bytes_eq word (codes "boot")) RestartBoot line h in
+    rw (← boot.1) (tt, cc ((bytes_eq-Decides word (codes "boot")).0 boot.0))
+restart_taken [] line h = cc h
+restart_taken (word ∷ more ∷ words) line h = cc h
+
 -- a line whose first word is this name or another word
 by_name : (word name : List ℕ) (words : List (List ℕ)) (line : Line) (named others : Option Line)
     → (if bytes_eq word name then named else others) ≡ Some line
@@ -198,7 +236,11 @@ words_taken (word ∷ words) line h =
     (λ h. by_name word (codes "show") words line (show_of words) _ h (show_taken words line)
     (λ h. by_name word (codes "crash") words line (crash_of words) _ h (crash_taken words line)
     (λ h. by_name word (codes "stop") words line (stop_of words) _ h (stop_taken words line)
-    (λ h. by_name word (codes "relay") words line (relay_of words) None h (relay_taken words line) (λ h. cc h)))))))))
+    (λ h. by_name word (codes "log") words line (log_of words) _ h (log_taken words line)
+    (λ h. by_name word (codes "apply") words line (apply_of words) _ h (apply_taken words line)
+    (λ h. by_name word (codes "trim") words line (trim_of words) _ h (trim_taken words line)
+    (λ h. by_name word (codes "restart") words line (restart_of words) _ h (restart_taken words line)
+    (λ h. by_name word (codes "relay") words line (relay_of words) None h (relay_taken words line) (λ h. cc h)))))))))))))
 
 joined : (text : List ℕ) (words : List (List ℕ)) → words_of text ≡ words → text ≡ join_with_byte 32 words
 joined text words same = sym (join_with_byte-slice_split 32 text) ∙ ap (join_with_byte 32) same
@@ -214,6 +256,10 @@ text_taken text (Show name) h = (h.0, joined text _ h.1)
 text_taken text (Crash name) h = (h.0, joined text _ h.1)
 text_taken text (Stop name after) h = (h.0, joined text _ h.1)
 text_taken text (Stream scn filter max) h = (h.0, joined text _ h.1)
+text_taken text (Log count) h = (h.0, joined text _ h.1)
+text_taken text (Apply count) h = (h.0, joined text _ h.1)
+text_taken text (Trim scn) h = (h.0, joined text _ h.1)
+text_taken text RestartBoot h = (h.0, joined text _ h.1)
 
 pub line_taken : (text : List ℕ) (line : Line) → line_of text ≡ Some line → Spells text line
 unfolding line_of
@@ -270,6 +316,10 @@ are_full (Show name) h = rw (is_full-name name h) refl
 are_full (Crash name) h = rw (is_full-name name h) refl
 are_full (Stop name after) h = rw (is_full-name name h, is_full-when after) refl
 are_full (Stream scn filter max) h = rw (is_full-decimal scn (omega arith), is_full-filter filter h.1, is_full-decimal max (omega arith)) refl
+are_full (Log count) h = rw (is_full-decimal count (omega arith)) refl
+are_full (Apply count) h = rw (is_full-decimal count (omega arith)) refl
+are_full (Trim scn) h = rw (is_full-decimal scn (omega arith)) refl
+are_full RestartBoot h = refl
 
 taken_full : (words : List (List ℕ)) (line : Line) → HasWords words line → has_empty words ≡ false
 taken_full words Blank h = absurd h
@@ -282,6 +332,10 @@ taken_full words (Show name) h = rw h.1 (are_full (Show name) h.0)
 taken_full words (Crash name) h = rw h.1 (are_full (Crash name) h.0)
 taken_full words (Stop name after) h = rw h.1 (are_full (Stop name after) h.0)
 taken_full words (Stream scn filter max) h = rw h.1 (are_full (Stream scn filter max) h.0)
+taken_full words (Log count) h = rw h.1 (are_full (Log count) h.0)
+taken_full words (Apply count) h = rw h.1 (are_full (Apply count) h.0)
+taken_full words (Trim scn) h = rw h.1 (are_full (Trim scn) h.0)
+taken_full words RestartBoot h = rw h.1 refl
 
 none_taken : (read : Option Line) → ((line : Line) → read ≡ Some line → ⊥) → read ≡ None
 none_taken None h = refl
@@ -308,6 +362,10 @@ words_are (Show name) h = (refl, (IsWord-name name h, tt))
 words_are (Crash name) h = (refl, (IsWord-name name h, tt))
 words_are (Stop name after) h = (refl, (IsWord-name name h, (IsWord-when after, tt)))
 words_are (Stream scn filter max) h = (refl, (IsWord-decimal scn (omega arith), (IsWord-filter filter h.1, (IsWord-decimal max (omega arith), tt))))
+words_are (Log count) h = (refl, (IsWord-decimal count (omega arith), tt))
+words_are (Apply count) h = (refl, (IsWord-decimal count (omega arith), tt))
+words_are (Trim scn) h = (refl, (IsWord-decimal scn (omega arith), tt))
+words_are RestartBoot h = (refl, (refl, tt))
 
 from_words : (word : List ℕ) (words : List (List ℕ)) (line : Line) → AllByRecursion IsWord (word ∷ words)
     → is_blank (join_with_byte 32 (word ∷ words)) ≡ false → words_line (word ∷ words) ≡ Some line → line_of (join_with_byte 32 (word ∷ words)) ≡ Some line
@@ -358,6 +416,22 @@ unfolding words_line stream_of
 stream_again scn filter max h =
     rw (number_again MAX_SCN scn (lit< tt) h.0, number_in_again 1 16777216 max (lit< tt) h.2.0 h.2.1, selection_again filter h.1) refl
 
+log_again : (count : ℕ) → IsCount count → words_line (line_words (Log count)) ≡ Some (Log count)
+unfolding words_line log_of
+log_again count h = rw (number_in_again 1 1000000 count (lit< tt) h.0 h.1) refl
+
+apply_again : (count : ℕ) → IsCount count → words_line (line_words (Apply count)) ≡ Some (Apply count)
+unfolding words_line apply_of
+apply_again count h = rw (number_in_again 1 1000000 count (lit< tt) h.0 h.1) refl
+
+trim_again : (scn : ℕ) → scn ≤ MAX_SCN → words_line (line_words (Trim scn)) ≡ Some (Trim scn)
+unfolding words_line trim_of
+trim_again scn h = rw (number_again MAX_SCN scn (lit< tt) h) refl
+
+restart_again : words_line (line_words RestartBoot) ≡ Some RestartBoot
+unfolding words_line restart_of
+restart_again = refl
+
 pub line_again : (text : List ℕ) (line : Line) → Spells text line → line_of text ≡ Some line
 unfolding line_of
 line_again text Blank h = rw (h.1, h.0) refl
@@ -370,6 +444,10 @@ line_again text (Show name) h = rw h.1 (from_words _ _ _ (words_are (Show name) 
 line_again text (Crash name) h = rw h.1 (from_words _ _ _ (words_are (Crash name) h.0) refl (crash_again name h.0))
 line_again text (Stop name after) h = rw h.1 (from_words _ _ _ (words_are (Stop name after) h.0) refl (stop_again name after h.0))
 line_again text (Stream scn filter max) h = rw h.1 (from_words _ _ _ (words_are (Stream scn filter max) h.0) refl (stream_again scn filter max h.0))
+line_again text (Log count) h = rw h.1 (from_words _ _ _ (words_are (Log count) h.0) refl (log_again count h.0))
+line_again text (Apply count) h = rw h.1 (from_words _ _ _ (words_are (Apply count) h.0) refl (apply_again count h.0))
+line_again text (Trim scn) h = rw h.1 (from_words _ _ _ (words_are (Trim scn) h.0) refl (trim_again scn h.0))
+line_again text RestartBoot h = rw h.1 (from_words _ _ _ (words_are RestartBoot h.0) refl restart_again)
 
 -- ---- what a call answered
 

@@ -9,7 +9,7 @@ use Rattle.bus_types.specs.declared.change.Change.{Change}
 use Rattle.bus_types.specs.declared.limits.TheConstants.{MAX_SCN}
 use Rattle.trace_script.specs.declared.fault.LineFault.{LineFault}
 use Rattle.trace_script.specs.declared.line.Line.{Line}
-use Rattle.trace_script.specs.declared.line.Line.TheVariants.{Blank, Relay, Consumer, Commit, Feed, Poll, Show, Crash, Stop, Stream}
+use Rattle.trace_script.specs.declared.line.Line.TheVariants.{Blank, Relay, Consumer, Commit, Feed, Poll, Show, Crash, Stop, Stream, Log, Apply, Trim, RestartBoot}
 use Rattle.trace_script.specs.Lines.{line_of}
 use Rattle.trace_script.specs.Spelling.{IsLine, IsInRange, IsRoom, IsCount, IsMost, Spells, change_text, line_text, is_room, is_count, is_most, is_in_range}
 use Rattle.trace_script.specs.Reading.{Reads}
@@ -55,6 +55,10 @@ spelled (Show name) h = (h, refl)
 spelled (Crash name) h = (h, refl)
 spelled (Stop name after) h = (h, refl)
 spelled (Stream scn filter max) h = (h, refl)
+spelled (Log count) h = (h, refl)
+spelled (Apply count) h = (h, refl)
+spelled (Trim scn) h = (h, refl)
+spelled RestartBoot h = (h, refl)
 
 pub read_back : (line : Line) → IsLine line → line_of (line_text line) ≡ Some line
 read_back line h = line_again (line_text line) line (spelled line h)
@@ -71,6 +75,10 @@ in_range text (Show name) h = tt
 in_range text (Crash name) h = tt
 in_range text (Stop name after) h = tt
 in_range text (Stream scn filter max) h = (h.0.0, h.0.2)
+in_range text (Log count) h = h.0
+in_range text (Apply count) h = h.0
+in_range text (Trim scn) h = h.0
+in_range text RestartBoot h = tt
 
 pub all_in_range : (result : Result Line LineFault) (text : List ℕ) → Reads (λ line. line) result (line_of text) → IfOk result IsInRange
 all_in_range (Ok line) text h = in_range text line (line_taken text line h)
@@ -101,6 +109,10 @@ range_tested (Show name) h = tt
 range_tested (Crash name) h = tt
 range_tested (Stop name after) h = tt
 range_tested (Stream scn filter max) h = stream_tested scn max h
+range_tested (Log count) h = count_tested count h
+range_tested (Apply count) h = count_tested count h
+range_tested (Trim scn) h = leb-true scn MAX_SCN h
+range_tested RestartBoot h = tt
 
 count_test : (count : ℕ) → IsCount count → is_count count ≡ true
 count_test count h = rw (le-leb 1 count h.0, le-leb count 1000000 h.1) refl
@@ -122,3 +134,7 @@ range_test (Show name) h = refl
 range_test (Crash name) h = refl
 range_test (Stop name after) h = refl
 range_test (Stream scn filter max) h = rw (le-leb scn MAX_SCN h.0) (most_test max h.1)
+range_test (Log count) h = count_test count h
+range_test (Apply count) h = count_test count h
+range_test (Trim scn) h = le-leb scn MAX_SCN h
+range_test RestartBoot h = refl

@@ -2,7 +2,7 @@
 use Rattle.std.specs.Prelude.{ℕ, Bool, true, false, if◌then◌else◌, ◌==◌, List, [], ◌∷◌, codes, bytes_eq, Option, Some, None}
 use Rattle.std.specs.List.{list_any}
 use Rattle.trace_script.specs.declared.line.Line.{Line}
-use Rattle.trace_script.specs.declared.line.Line.TheVariants.{Blank, Relay, Consumer, Commit, Feed, Poll, Show, Crash, Stop, Stream}
+use Rattle.trace_script.specs.declared.line.Line.TheVariants.{Blank, Relay, Consumer, Commit, Feed, Poll, Show, Crash, Stop, Stream, Log, Apply, Trim, RestartBoot}
 use Rattle.bus_types.specs.declared.limits.TheConstants.{MAX_SCN}
 use Rattle.bus_types.specs.Text.{◌>>=◌, number_of, max_u64}
 use Rattle.trace_script.specs.Words.{words_of, number_in, name_of, selection_of, changes_of}
@@ -96,6 +96,36 @@ stream_of (scn ∷ []) = None
 stream_of (scn ∷ filter ∷ []) = None
 stream_of (scn ∷ filter ∷ max ∷ more ∷ words) = None
 
+-- `log N`
+unfoldable pub log_of : List (List ℕ) → Option Line
+log_of (count ∷ []) = do
+  number ← number_in 1 1000000 count
+  Some (Log number)
+log_of [] = None
+log_of (count ∷ more ∷ words) = None
+
+-- `apply N`
+unfoldable pub apply_of : List (List ℕ) → Option Line
+apply_of (count ∷ []) = do
+  number ← number_in 1 1000000 count
+  Some (Apply number)
+apply_of [] = None
+apply_of (count ∷ more ∷ words) = None
+
+-- `trim SCN`
+unfoldable pub trim_of : List (List ℕ) → Option Line
+trim_of (scn ∷ []) = do
+  number ← number_of MAX_SCN scn
+  Some (Trim number)
+trim_of [] = None
+trim_of (scn ∷ more ∷ words) = None
+
+-- `restart boot`
+unfoldable pub restart_of : List (List ℕ) → Option Line
+restart_of (word ∷ []) = if bytes_eq word (codes "boot") then Some RestartBoot else None
+restart_of [] = None
+restart_of (word ∷ more ∷ words) = None
+
 -- the first word says which line it is
 unfoldable pub words_line : List (List ℕ) → Option Line
 words_line [] = None
@@ -108,6 +138,10 @@ words_line (word ∷ words) =
     else if bytes_eq word (codes "show") then show_of words
     else if bytes_eq word (codes "crash") then crash_of words
     else if bytes_eq word (codes "stop") then stop_of words
+    else if bytes_eq word (codes "log") then log_of words
+    else if bytes_eq word (codes "apply") then apply_of words
+    else if bytes_eq word (codes "trim") then trim_of words
+    else if bytes_eq word (codes "restart") then restart_of words
     else if bytes_eq word (codes "relay") then relay_of words
     else None
 

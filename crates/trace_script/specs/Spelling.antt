@@ -7,7 +7,7 @@ use Rattle.bus_types.specs.Change.{AreChanges, key_text}
 use Rattle.bus_types.specs.declared.limits.TheConstants.{MAX_SCN}
 use Rattle.partition_filter.specs.Spelling.{IsFilter, filter_text}
 use Rattle.trace_script.specs.declared.line.Line.{Line}
-use Rattle.trace_script.specs.declared.line.Line.TheVariants.{Blank, Relay, Consumer, Commit, Feed, Poll, Show, Crash, Stop, Stream}
+use Rattle.trace_script.specs.declared.line.Line.TheVariants.{Blank, Relay, Consumer, Commit, Feed, Poll, Show, Crash, Stop, Stream, Log, Apply, Trim, RestartBoot}
 use Rattle.trace_script.specs.Words.{is_name_text}
 use Rattle.trace_script.specs.Lines.{is_blank}
 
@@ -36,6 +36,10 @@ line_words (Show name) = codes "show" ∷ name ∷ []
 line_words (Crash name) = codes "crash" ∷ name ∷ []
 line_words (Stop name after) = codes "stop" ∷ name ∷ when_text after ∷ []
 line_words (Stream scn filter max) = codes "stream" ∷ decimal scn ∷ filter_text filter ∷ decimal max ∷ []
+line_words (Log count) = codes "log" ∷ decimal count ∷ []
+line_words (Apply count) = codes "apply" ∷ decimal count ∷ []
+line_words (Trim scn) = codes "trim" ∷ decimal scn ∷ []
+line_words RestartBoot = codes "restart" ∷ codes "boot" ∷ []
 
 -- the words with one space between two of them
 abbrev pub line_text : Line → List ℕ
@@ -72,6 +76,10 @@ IsLine (Show name) = IsName name
 IsLine (Crash name) = IsName name
 IsLine (Stop name after) = IsName name
 IsLine (Stream scn filter max) = (scn ≤ MAX_SCN) × IsFilter filter × IsMost max
+IsLine (Log count) = IsCount count
+IsLine (Apply count) = IsCount count
+IsLine (Trim scn) = scn ≤ MAX_SCN
+IsLine RestartBoot = Unit {0}
 
 -- the numbers of a line are in the ranges of the grammar, where these are narrower than those of their types
 abbrev pub IsInRange : Line → Type 0
@@ -85,6 +93,10 @@ IsInRange (Show name) = Unit {0}
 IsInRange (Crash name) = Unit {0}
 IsInRange (Stop name after) = Unit {0}
 IsInRange (Stream scn filter max) = (scn ≤ MAX_SCN) × IsMost max
+IsInRange (Log count) = IsCount count
+IsInRange (Apply count) = IsCount count
+IsInRange (Trim scn) = scn ≤ MAX_SCN
+IsInRange RestartBoot = Unit {0}
 
 -- ---- the same ranges as tests
 
@@ -108,6 +120,10 @@ is_in_range (Show name) = true
 is_in_range (Crash name) = true
 is_in_range (Stop name after) = true
 is_in_range (Stream scn filter max) = nat_le scn MAX_SCN && is_most max
+is_in_range (Log count) = is_count count
+is_in_range (Apply count) = is_count count
+is_in_range (Trim scn) = nat_le scn MAX_SCN
+is_in_range RestartBoot = true
 
 -- ---- filters and texts
 

@@ -14,8 +14,8 @@ pub(crate) const MAX_ROOM: u64 = 268_435_456;
 /// The most windows that a relay is told to hold.
 pub(crate) const MAX_WINDOWS: u64 = 65_536;
 
-/// The most commits that one line feeds.
-pub(crate) const MAX_FEED: u64 = 1_000_000;
+/// The most commits that one line feeds, and the most windows that one logs or applies.
+pub(crate) const MAX_COUNT: u64 = 1_000_000;
 
 /// The most bytes that a line may ask a reply to have.
 pub(crate) const MAX_REPLY: u64 = 16_777_216;
@@ -76,6 +76,16 @@ pub enum Line {
         /// The most bytes that the reply may have, 1 to 16,777,216.
         max: u32,
     },
+    /// `log N`: the log of the bootstrap service takes the next N windows that the relay keeps, 1 to 1,000,000, or
+    /// those there are.
+    Log(u64),
+    /// `apply N`: the table of the bootstrap service takes the next N logged windows, 1 to 1,000,000, or those there
+    /// are.
+    Apply(u64),
+    /// `trim SCN`: the log of the bootstrap service may drop windows up to this SCN, 0 to 9,223,372,036,854,775,807.
+    Trim(u64),
+    /// `restart boot`: the bootstrap service is opened again from its log and its keeper.
+    RestartBoot,
 }
 
 impl Line {
@@ -87,9 +97,10 @@ impl Line {
         match self {
             Line::Relay { bytes, windows } => is_room(*bytes, *windows),
             Line::Commit { changes, .. } => !changes.items().is_empty(),
-            Line::Feed(count) => is_count(*count),
+            Line::Feed(count) | Line::Log(count) | Line::Apply(count) => is_count(*count),
             Line::Poll { max, .. } => is_most(*max),
             Line::Stream { scn, max, .. } => *scn <= MAX_SCN && is_most(*max),
+            Line::Trim(scn) => *scn <= MAX_SCN,
             _ => true,
         }
     }
@@ -104,7 +115,7 @@ fn is_room(bytes: u64, windows: u32) -> bool
 fn is_count(count: u64) -> bool
     ensures { result ≡ is_count count }
 {
-    1 <= count && count <= MAX_FEED
+    1 <= count && count <= MAX_COUNT
 }
 
 fn is_most(max: u32) -> bool

@@ -4,11 +4,11 @@ ghost use Rattle.trace_script.specs.Reading.{Reads};
 ghost use Rattle.trace_script.specs.declared.line.Line.{Line};
 ghost use Rattle.trace_script.specs.Spelling.{IsInRange, Spells};
 ghost use Rattle.trace_script.specs.Words.{words_of, number_in, name_of, selection_of};
-ghost use Rattle.trace_script.specs.Lines.{is_blank, relay_of, consumer_of, commit_of, feed_of, poll_of, show_of, crash_of, when_of, stop_of, stream_of, words_line, line_of};
+ghost use Rattle.trace_script.specs.Lines.{is_blank, relay_of, consumer_of, commit_of, feed_of, poll_of, show_of, crash_of, when_of, stop_of, stream_of, log_of, apply_of, trim_of, restart_of, words_line, line_of};
 
 use crate::change::changes;
 use crate::fault::LineFault;
-use crate::line::{Line, MAX_FEED, MAX_REPLY, MAX_ROOM, MAX_WINDOWS, MIN_ROOM};
+use crate::line::{Line, MAX_COUNT, MAX_REPLY, MAX_ROOM, MAX_WINDOWS, MIN_ROOM};
 use crate::name::Name;
 use bus_types::{Changes, MAX_SCN, read_number};
 use partition_filter::{Filter, FilterFault};
@@ -111,6 +111,14 @@ fn plain_line(word: &[u8], words: &[&[u8]]) -> Option<Line>
         crash(words)
     } else if word == b"stop".as_slice() {
         stop(words)
+    } else if word == b"log".as_slice() {
+        log(words)
+    } else if word == b"apply".as_slice() {
+        apply(words)
+    } else if word == b"trim".as_slice() {
+        trim(words)
+    } else if word == b"restart".as_slice() {
+        restart(words)
     } else if word == b"relay".as_slice() {
         relay(words)
     } else {
@@ -171,7 +179,7 @@ fn feed(words: &[&[u8]]) -> Option<Line>
     let [count] = words else {
         return None;
     };
-    Some(Line::Feed(number_in(count, 1, MAX_FEED)?))
+    Some(Line::Feed(line_count(count)?))
 }
 
 /// `poll NAME MAX`
@@ -236,6 +244,54 @@ fn is_after(word: &[u8]) -> Option<bool>
     }
 }
 
+/// `log N`
+#[tactic(auto, unfolding(crate::specs::Lines::log_of))]
+fn log(words: &[&[u8]]) -> Option<Line>
+    ensures { result ≡ log_of (map (λ word. word.now) words.now) }
+{
+    let [count] = words else {
+        return None;
+    };
+    Some(Line::Log(line_count(count)?))
+}
+
+/// `apply N`
+#[tactic(auto, unfolding(crate::specs::Lines::apply_of))]
+fn apply(words: &[&[u8]]) -> Option<Line>
+    ensures { result ≡ apply_of (map (λ word. word.now) words.now) }
+{
+    let [count] = words else {
+        return None;
+    };
+    Some(Line::Apply(line_count(count)?))
+}
+
+/// `trim SCN`
+#[tactic(auto, unfolding(crate::specs::Lines::trim_of))]
+fn trim(words: &[&[u8]]) -> Option<Line>
+    ensures { result ≡ trim_of (map (λ word. word.now) words.now) }
+{
+    let [scn] = words else {
+        return None;
+    };
+    Some(Line::Trim(read_number(scn, MAX_SCN)?))
+}
+
+/// `restart boot`
+#[tactic(auto, unfolding(crate::specs::Lines::restart_of))]
+fn restart(words: &[&[u8]]) -> Option<Line>
+    ensures { result ≡ restart_of (map (λ word. word.now) words.now) }
+{
+    let [word] = words else {
+        return None;
+    };
+    if *word == b"boot".as_slice() {
+        Some(Line::RestartBoot)
+    } else {
+        None
+    }
+}
+
 /// `stream SCN FILTER MAX`
 #[tactic(auto, unfolding(crate::specs::Lines::stream_of))]
 fn stream(alloc: Global, words: &[&[u8]]) -> Result<Line, LineFault>
@@ -259,6 +315,13 @@ fn selection(alloc: Global, word: &[u8]) -> Result<Filter, LineFault>
         Err(FilterFault::NoMemory) => Err(LineFault::NoMemory),
         Err(FilterFault::BadFilter { .. }) => Err(LineFault::BadLine),
     }
+}
+
+/// How many commits are fed, or windows are logged or applied.
+fn line_count(word: &[u8]) -> Option<u64>
+    ensures { result ≡ number_in 1 1000000 word.now }
+{
+    number_in(word, 1, MAX_COUNT)
 }
 
 /// The most bytes of a reply.

@@ -28,6 +28,10 @@ fn says(line: &Result<Line, LineFault>, kind: &str, text: &[u8], number: u64) ->
         Ok(Line::Stream { scn, max, .. }) => {
             kind == "stream" && *scn == number && (*max == 1 || *max == 16_777_216)
         }
+        Ok(Line::Log(count)) => kind == "log" && *count == number,
+        Ok(Line::Apply(count)) => kind == "apply" && *count == number,
+        Ok(Line::Trim(scn)) => kind == "trim" && *scn == number,
+        Ok(Line::RestartBoot) => kind == "restart",
         Err(_) => false,
     }
 }
@@ -85,6 +89,18 @@ fn each_kind_of_line_is_read(rt: HostRuntime) {
             b"",
             9_223_372_036_854_775_807,
         ),
+        (b"log 1", "log", b"", 1),
+        (b"log 1000000", "log", b"", 1_000_000),
+        (b"apply 1", "apply", b"", 1),
+        (b"apply 1000000", "apply", b"", 1_000_000),
+        (b"trim 0", "trim", b"", 0),
+        (
+            b"trim 9223372036854775807",
+            "trim",
+            b"",
+            9_223_372_036_854_775_807,
+        ),
+        (b"restart boot", "restart", b"", 0),
     ] {
         let line = read_line(rt.alloc(), text);
         assert!(rt; says(&line, kind, name, number));
@@ -178,6 +194,20 @@ fn other_texts_are_bad(rt: HostRuntime) {
         b"stream 01 all 1",
         b"stream 1 0 1",
         b"stream 1 all 1 1",
+        b"log",
+        b"log 0",
+        b"log 1000001",
+        b"log 1 1",
+        b"apply",
+        b"apply 0",
+        b"apply 1000001",
+        b"trim",
+        b"trim 9223372036854775808",
+        b"trim 01",
+        b"trim 1 1",
+        b"restart",
+        b"restart boot x",
+        b"restart relay",
     ] {
         let line = read_line(rt.alloc(), text);
         assert!(rt; matches!(line, Err(LineFault::BadLine)), "{text:?}");
@@ -281,6 +311,10 @@ fn a_line_is_written_behind_what_was_there(rt: HostRuntime) -> Result<(), Fail> 
             ),
             b"> stream 7 all 1",
         ),
+        (written(alloc, &Line::Log(1)), b"> log 1"),
+        (written(alloc, &Line::Apply(1_000_000)), b"> apply 1000000"),
+        (written(alloc, &Line::Trim(0)), b"> trim 0"),
+        (written(alloc, &Line::RestartBoot), b"> restart boot"),
     ] {
         assert_eq!(rt; written?.as_slice(), text);
     }
@@ -311,6 +345,10 @@ fn each_kind_of_line_is_written_as_it_was_read(rt: HostRuntime) -> Result<(), Fa
         b"stop c1 after",
         b"stream 9223372036854775807 all 16777216",
         b"stream 0 65535* 1",
+        b"log 1000000",
+        b"apply 1",
+        b"trim 9223372036854775807",
+        b"restart boot",
     ] {
         let again = written_again(rt.alloc(), text).ok().ok_or("a line")?;
         assert_eq!(rt; again.as_slice(), text);

@@ -79,6 +79,10 @@ fn room_for(line: &Line) -> usize
         Line::Crash(name) => 6 + name.bytes().len(),
         Line::Stop { name, .. } => 12 + name.bytes().len(),
         Line::Stream { .. } => 36,
+        Line::Log(_) => 11,
+        Line::Apply(_) => 13,
+        Line::Trim(_) => 24,
+        Line::RestartBoot => 12,
     }
 }
 
@@ -128,6 +132,10 @@ fn append_line(line: &Line, filter: &[u8], out: &mut Vec<u8>) -> Result<(), NoMe
         Line::Crash(name) => append_crash(name, out),
         Line::Stop { name, after } => append_stop(name, *after, out),
         Line::Stream { scn, max, .. } => append_stream(*scn, filter, *max, out),
+        Line::Log(count) => append_log(*count, out),
+        Line::Apply(count) => append_apply(*count, out),
+        Line::Trim(scn) => append_trim(*scn, out),
+        Line::RestartBoot => append_restart(out),
     }
 }
 
@@ -220,6 +228,38 @@ fn append_stream(scn: u64, filter: &[u8], max: u32, out: &mut Vec<u8>) -> Result
     out.extend_from_slice(filter)?;
     out.extend_from_slice(b" ")?;
     append_number(u64::from(max), out)
+}
+
+/// `log N`
+fn append_log(count: u64, out: &mut Vec<u8>) -> Result<(), NoMemory>
+    ensures { Appends result (codes "log " ++ decimal count) out.old.items out.new.items }
+{
+    out.extend_from_slice(b"log ")?;
+    append_number(count, out)
+}
+
+/// `apply N`
+fn append_apply(count: u64, out: &mut Vec<u8>) -> Result<(), NoMemory>
+    ensures { Appends result (codes "apply " ++ decimal count) out.old.items out.new.items }
+{
+    out.extend_from_slice(b"apply ")?;
+    append_number(count, out)
+}
+
+/// `trim SCN`
+fn append_trim(scn: u64, out: &mut Vec<u8>) -> Result<(), NoMemory>
+    ensures { Appends result (codes "trim " ++ decimal scn) out.old.items out.new.items }
+{
+    out.extend_from_slice(b"trim ")?;
+    append_number(scn, out)
+}
+
+/// `restart boot`
+fn append_restart(out: &mut Vec<u8>) -> Result<(), NoMemory>
+    ensures { Appends result (codes "restart boot") out.old.items out.new.items }
+{
+    out.extend_from_slice(b"restart boot")?;
+    Ok(())
 }
 
 /// `commit SCN CHANGE ..`
