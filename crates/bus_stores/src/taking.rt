@@ -1,4 +1,4 @@
-ghost use Rattle.std.specs.Prelude.{◌≡◌, IfOk, is_some, option_map};
+ghost use Rattle.std.specs.Prelude.{◌≡◌, None, IfOk, OnErr, IsSome, is_some, option_map};
 ghost use Rattle.bus_stores.specs.Taking.{Takes, commit_move};
 
 use crate::keeper::{Keeper, StoreFault};
@@ -25,6 +25,8 @@ pub fn take<K: Keeper>(
 ) -> Result<bool, StoreFault>
     ensures takes { Takes (option_map commit_move commit.entry) (K.state keeper.old) (K.state keeper.new) result }
     ensures committed { IfOk result (λ committed. committed ≡ is_some commit.entry) }
+    ensures fails { OnErr result (IsSome commit.entry) }
+    ensures nothing { commit.entry ≡ None → K.state keeper.new ≡ K.state keeper.old }
 {
     let Some(commit) = commit else {
         return Ok(false);

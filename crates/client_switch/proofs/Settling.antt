@@ -1,5 +1,5 @@
 -- What a client does with a reply, from its parts.
-use Rattle.std.proofs.Common.{◌≡◌, ℕ, inr, List, [], ◌∷◌, ◌++◌, map, Option, Some, None, Result, Ok, Err, append-nil, refl, sym, ap, subst, ◌∙◌, append_assoc}
+use Rattle.std.proofs.Common.{◌≡◌, ℕ, List, [], ◌∷◌, ◌++◌, map, Option, Some, None, Result, Ok, Err, append-nil, refl, sym, ap, subst, ◌∙◌, append_assoc}
 use Rattle.event_codec.specs.declared.reply.Shape.{Shape}
 use Rattle.checkpoint.specs.Mark.{floor_of}
 use Rattle.bus_wire.specs.declared.ask.Ask.{Ask}
@@ -64,5 +64,5 @@ takes_settled (Err StoreFault) old new ask bytes shape kept keeps before mid aft
 takes_settled (Err NoMemory) old new ask bytes shape kept keeps before mid after r lawful is all settles = record {
   client = settles.client;
   keeper = settles.keeper;
-  calls = inr (shape, lawful, all_and shape bytes (taken (OnRollback (floor_of old.mark)) ∷ []) before mid after all settles.calls);
+  calls = (shape, lawful, all_and shape bytes (taken (OnRollback (floor_of old.mark)) ∷ []) before mid after all settles.calls);
 }

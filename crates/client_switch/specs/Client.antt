@@ -1,5 +1,5 @@
 -- A client against its keeper, its consumer and the replies that it takes.
-use Rattle.std.specs.Prelude.{◌≡◌, ℕ, ◌≤◌, Bool, true, false, if◌then◌else◌, List, [], ◌∷◌, ◌++◌, length, map, Option, Some, None, IfSome, Result, Ok, Err, ◌⊎◌}
+use Rattle.std.specs.Prelude.{◌≡◌, ℕ, ◌≤◌, Bool, true, false, if◌then◌else◌, List, [], ◌∷◌, ◌++◌, length, map, Option, Some, None, IfSome, Result, Ok, Err}
 use Rattle.bus_types.specs.Causes.{Rose}
 use Rattle.bus_types.specs.Change.{Test}
 use Rattle.bus_types.specs.Window.{Span}
@@ -159,11 +159,11 @@ pub record Halts (old new : Held) (ask : Ask) (bytes : List ℕ) (kept keeps : K
   pub may : MayFail kept
   pub calls : CallsAll shape bytes [] before after
 
--- memory ran out: nobody was told, or the consumer was told of the whole reply and then to go back
+-- memory ran out: the consumer was told of the whole reply and then to go back
 pub record RunsOut (old new : Held) (ask : Ask) (bytes : List ℕ) (kept keeps : KeeperState) (before after : Option (List Call)) : Type 0 where
   pub client : new ≡ old
   pub keeper : SameStore kept keeps
-  pub calls : (after ≡ before) ⊎ ((shape : Shape) × IsLawful ask bytes shape × CallsAll shape bytes (taken (OnRollback (floor_of old.mark)) ∷ []) before after)
+  pub calls : (shape : Shape) × IsLawful ask bytes shape × CallsAll shape bytes (taken (OnRollback (floor_of old.mark)) ∷ []) before after
 
 -- what a call of `take` does, by its answer
 abbrev pub Takes : Result Took TakeFault → Held → Held → Ask → List ℕ → KeeperState → KeeperState → Option (List Call) → Option (List Call) → Type 0
