@@ -1,18 +1,21 @@
 -- What a bootstrap makes of the relay's reply.
-use Rattle.std.specs.Prelude.{◌≡◌, ℕ, ◌+◌, ◌-◌, ◌<◌, ◌≤◌, true, false, List, [], ◌++◌, length, take, option_map, slice_get, Option, Some, None, Result, Ok, Err}
+use Rattle.std.specs.Prelude.{◌≡◌, ℕ, ◌-◌, ◌<◌, ◌⊎◌, true, List, [], ◌∷◌, ◌++◌, length, take, option_map, slice_get, Option, Some, Result, Ok, Err}
 use Rattle.bus_types.specs.Causes.{Rose}
 use Rattle.bus_types.specs.Window.{Span, span_size}
 use Rattle.bus_types.specs.Timeline.{end_from}
+use Rattle.bus_types.specs.Relay.{is_place, stream}
+use Rattle.partition_filter.specs.Selection.{test_of}
 use Rattle.partition_filter.specs.Selection.Selection.{All}
+use Rattle.event_codec.specs.declared.answer.Answer.{Answer}
 use Rattle.event_codec.specs.declared.answer.Answer.TheVariants.{NotFound, Empty}
 use Rattle.event_codec.specs.declared.reply.Shape.{Shape}
 use Rattle.event_codec.specs.declared.reply.Shape.TheVariants.{Only}
 use Rattle.event_codec.specs.Streams.{windows_bytes}
+use Rattle.event_codec.specs.Reply.{reply_bytes}
 use Rattle.bus_wire.specs.declared.ask.Ask.{Ask}
 use Rattle.bus_wire.specs.declared.ask.Ask.TheVariants.{Stream}
 use Rattle.bus_wire.specs.Lawful.{IsLawful, IsFaultAt, IsRun}
 use Rattle.bus_types.specs.declared.limits.TheConstants.{MAX_SCN}
-use Rattle.bus_stores.specs.Log.{LogState, SameLog}
 use Rattle.bootstrap_core.specs.declared.fault.TakeLog.{TakeLog}
 use Rattle.bootstrap_core.specs.declared.fault.TakeLog.TheVariants.{BadReply, Gap, Full, LogFailed, Halted, NoMemory}
 use Rattle.bootstrap_core.specs.Boot.{BootState}
@@ -72,10 +75,21 @@ pub record Fills (need count : ℕ) (bytes : List ℕ) (old new : BootState) : T
   pub need_is : need ≡ span_size next
   pub full : new.log.full need ≡ true
 
--- of the windows of a reply some were appended, or none
-pub record LogsSome (bytes : List ℕ) (old new : BootState) : Type 0 where
+-- of the first so many windows of a reply some were appended, and not the last of them; or none was
+pub record LogsSome (count : ℕ) (bytes : List ℕ) (old new : BootState) : Type 0 where
   pub windows : List Span
-  pub logged : Logged windows old new
+  pub are : AreWindowsBehind old.log.high bytes windows
+  pub done : ℕ
+  pub chained : 0 < done → IsChained old.log.high windows
+  pub some : 0 < done → done < length (take count windows)
+  pub logged : Logged (take done windows) old new
+
+-- the log failed, and the bootstrap halted
+pub record LogBreaks (old new : BootState) : Type 0 where
+  pub halted : new.halted ≡ true
+  pub rose : Rose old.log.faults new.log.faults
+  pub keeper : new.keeper ≡ old.keeper
+  pub mark : new.mark ≡ old.mark
 
 -- nothing changed
 abbrev pub SameBoot : BootState → BootState → Type 0
@@ -89,6 +103,65 @@ TakesLog (Err (BadReply place)) count bytes old new =
     ⊎ ((ws : List Span) × AreWindowsBehind old.log.high bytes ws × (IsChained old.log.high ws → ⊥) × (place ≡ first_mark ws)))
 TakesLog (Err (Gap floor)) count bytes old new = SameBoot old new × IsLawful (log_ask old.log.high) bytes (Only (NotFound floor))
 TakesLog (Err (Full need)) count bytes old new = Fills need count bytes old new
-TakesLog (Err LogFailed) count bytes old new = (new.halted ≡ true) × Rose old.log.faults new.log.faults × (new.keeper ≡ old.keeper) × (new.mark ≡ old.mark)
+TakesLog (Err LogFailed) count bytes old new = LogBreaks old new
 TakesLog (Err Halted) count bytes old new = SameBoot old new
-TakesLog (Err NoMemory) count bytes old new = LogsSome bytes old new
+TakesLog (Err NoMemory) count bytes old new = LogsSome count bytes old new
+
+-- ---- a reply that is true
+
+-- the bytes are what a relay of this timeline replies to who asks for all windows behind an SCN: for some floor and end that
+-- are places of it
+pub record IsRelayReply (ws : List Span) (high : ℕ) (bytes : List ℕ) : Type 0 where
+  pub floor : ℕ
+  pub end : ℕ
+  pub floor_place : is_place floor ws ≡ true
+  pub end_place : is_place end ws ≡ true
+  pub is : bytes ≡ reply_bytes (stream ws floor end high (test_of All) most_bytes)
+
+-- ---- the code's words
+
+-- what an answer in place of windows makes
+abbrev pub IsAnswered : Result ℕ TakeLog → ℕ → Answer → Type 0
+IsAnswered (Ok scn) high answer = (scn ≡ high) × ((end : ℕ) × (answer ≡ Empty end))
+IsAnswered (Err (BadReply place)) high answer = ⊥
+IsAnswered (Err (Gap floor)) high answer = answer ≡ NotFound floor
+IsAnswered (Err (Full need)) high answer = ⊥
+IsAnswered (Err LogFailed) high answer = ⊥
+IsAnswered (Err Halted) high answer = ⊥
+IsAnswered (Err NoMemory) high answer = ⊥
+
+-- a window was to be appended
+abbrev pub LogsWindow : Result Unit TakeLog → Span → BootState → BootState → Type 0
+LogsWindow (Ok u) w old new = Logged (w ∷ []) old new
+LogsWindow (Err (BadReply place)) w old new = ⊥
+LogsWindow (Err (Gap floor)) w old new = ⊥
+LogsWindow (Err (Full need)) w old new = (need ≡ span_size w) × (new.log.full need ≡ true) × Logged [] old new
+LogsWindow (Err LogFailed) w old new = LogBreaks old new
+LogsWindow (Err Halted) w old new = ⊥
+LogsWindow (Err NoMemory) w old new = Logged [] old new
+
+-- of windows some were appended, and then the next one found no room
+pub record FillsAt (need : ℕ) (ws : List Span) (old new : BootState) : Type 0 where
+  pub done : ℕ
+  pub some : done < length ws
+  pub logged : Logged (take done ws) old new
+  pub next : Span
+  pub is_next : slice_get ws done ≡ Some next
+  pub need_is : need ≡ span_size next
+  pub full : new.log.full need ≡ true
+
+-- some were appended, and not the last one
+pub record StopsWithin (ws : List Span) (old new : BootState) : Type 0 where
+  pub done : ℕ
+  pub some : done < length ws
+  pub logged : Logged (take done ws) old new
+
+-- they were to be appended
+abbrev pub LogsEach : {X : Type 0} → Result X TakeLog → List Span → BootState → BootState → Type 0
+LogsEach (Ok x) ws old new = Logged ws old new
+LogsEach (Err (BadReply place)) ws old new = ⊥
+LogsEach (Err (Gap floor)) ws old new = ⊥
+LogsEach (Err (Full need)) ws old new = FillsAt need ws old new
+LogsEach (Err LogFailed) ws old new = LogBreaks old new
+LogsEach (Err Halted) ws old new = ⊥
+LogsEach (Err NoMemory) ws old new = StopsWithin ws old new

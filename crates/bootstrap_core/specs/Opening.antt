@@ -1,5 +1,5 @@
 -- How a bootstrap is opened over its log and its keeper.
-use Rattle.std.specs.Prelude.{◌≡◌, ℕ, ◌<◌, ◌≤◌, false, Option, IfSome}
+use Rattle.std.specs.Prelude.{◌≡◌, ℕ, ◌<◌, ◌≤◌, false, List, Option, Some, IfSome}
 use Rattle.bus_types.specs.Causes.{Rose}
 use Rattle.bus_stores.specs.Keeper.{KeeperState, SameStore}
 use Rattle.bus_stores.specs.Log.{LogState}
@@ -31,3 +31,23 @@ OpensNot (Hole base floor) log old new =
 OpensNot LogFailed log old new = ⊥
 OpensNot StoreFailed log old new = Rose old.faults new.faults × IfSome old.stops (λ s. s.sound ≡ false)
 OpensNot NoMemory log old new = Unit {0}
+
+-- ---- the code's words
+
+-- why a text gave no boot mark
+abbrev pub Unread : List ℕ → BootOpen → Type 0
+Unread text BadMark = (mark : BootMark) → IsBootStored (Some text) mark → ⊥
+Unread text (Ahead applied high) = ⊥
+Unread text (Hole base floor) = ⊥
+Unread text LogFailed = ⊥
+Unread text StoreFailed = ⊥
+Unread text NoMemory = Unit {0}
+
+-- why a boot mark doesn't lie between the ends of a log
+abbrev pub IsMisplaced : LogState → BootMark → BootOpen → Type 0
+IsMisplaced log mark BadMark = ⊥
+IsMisplaced log mark (Ahead applied high) = (high ≡ log.high) × (high < applied) × (mark.applied ≡ applied)
+IsMisplaced log mark (Hole base floor) = (floor ≡ log.floor) × (base < floor) × (mark.base ≡ base) × (mark.applied ≤ log.high)
+IsMisplaced log mark LogFailed = ⊥
+IsMisplaced log mark StoreFailed = ⊥
+IsMisplaced log mark NoMemory = ⊥

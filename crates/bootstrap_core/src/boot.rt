@@ -1,12 +1,14 @@
-ghost use Rattle.std.specs.Prelude.{◌≡◌, List, IfOk, IfErr};
+ghost use Rattle.std.specs.Prelude.{◌≡◌, List, Some, MatchOption, IsSome, IfOk, IfErr};
 ghost use Rattle.bus_types.specs.Change.{Test};
 ghost use Rattle.bus_types.specs.Window.{Span};
 ghost use Rattle.bus_wire.specs.Questions.{Question, Reply};
 ghost use Rattle.bus_wire.specs.True.{boot_reply};
 ghost use Rattle.bus_stores.specs.Keeper.{SameStore};
+ghost use Rattle.bus_stores.specs.Log.{LogState};
+ghost use Rattle.snapshot_applier.specs.BootMark.{IsBootMark, IsBootStored};
 ghost use Rattle.snapshot_applier.specs.declared.boot.BootMark.{BootMark};
-ghost use Rattle.bootstrap_core.specs.Boot.{told, numbers, Stands, StandsForBoot};
-ghost use Rattle.bootstrap_core.specs.Opening.{IsOpened, OpensNot};
+ghost use Rattle.bootstrap_core.specs.Boot.{told, numbers, IsBetween, Stands, StandsForBoot};
+ghost use Rattle.bootstrap_core.specs.Opening.{Stores, IsOpened, OpensNot, Unread, IsMisplaced};
 
 use crate::fault::BootOpen;
 use bus_stores::{Keeper, StoreFault, WindowLog};
@@ -50,8 +52,9 @@ impl<G: WindowLog, K: Keeper> Boot<G, K> {
         ensures fault { IfErr result (λ e. OpensNot e.0 (G.state log) (K.state keeper) (K.state e.2)) }
         ensures back { IfErr result (λ e. (e.1 ≡ log) × SameStore (K.state keeper) (K.state e.2)) }
 
-        // Log and keeper of a bootstrap that stood for a timeline give one that does, at the same numbers.
-        ensures stands { (ws : List Span) (mark : BootMark) → StandsForBoot ws (G.state log) (K.state keeper) mark →
+        // Log and keeper of a bootstrap that stood for a timeline give one that does, at the same numbers, where the keeper tells
+        // its content.
+        ensures stands { (ws : List Span) (mark : BootMark) → StandsForBoot ws (G.state log) (K.state keeper) mark → IsSome (K.state keeper).content →
             IfOk result (λ boot. (boot.mark ≡ mark) × Stands ws (told G.state K.state boot)) }
     {
         let mut keeper = keeper;
@@ -143,7 +146,12 @@ impl<G: WindowLog, K: Keeper> Boot<G, K> {
 }
 
 // The boot mark that a keeper stores.
-fn stored_mark<K: Keeper>(alloc: Global, keeper: &mut K) -> Result<BootMark, BootOpen> {
+fn stored_mark<K: Keeper>(alloc: Global, keeper: &mut K) -> Result<BootMark, BootOpen>
+    ensures lawful { IfOk result IsBootMark }
+    ensures stored { IfOk result (Stores (K.state keeper.old)) }
+    ensures fault { IfErr result (λ fault. (log : LogState) → OpensNot fault log (K.state keeper.old) (K.state keeper.new)) }
+    ensures same { SameStore (K.state keeper.old) (K.state keeper.new) }
+{
     match keeper.mark(alloc) {
         Ok(None) => Ok(BootMark {
             base: 0,
@@ -156,7 +164,10 @@ fn stored_mark<K: Keeper>(alloc: Global, keeper: &mut K) -> Result<BootMark, Boo
 }
 
 // The boot mark of a text.
-fn mark_of(alloc: Global, text: &MarkText) -> Result<BootMark, BootOpen> {
+fn mark_of(alloc: Global, text: &MarkText) -> Result<BootMark, BootOpen>
+    ensures stored { IfOk result (IsBootStored (Some text.now)) }
+    ensures fault { IfErr result (Unread text.now) }
+{
     match read_boot(alloc, text) {
         Ok(mark) => Ok(mark),
         Err(BootTextFault::BadMark) => Err(BootOpen::BadMark),
@@ -165,7 +176,10 @@ fn mark_of(alloc: Global, text: &MarkText) -> Result<BootMark, BootOpen> {
 }
 
 // Why a boot mark doesn't lie between the ends of a log.
-fn place_fault<G: WindowLog>(log: &G, mark: &BootMark) -> Option<BootOpen> {
+fn place_fault<G: WindowLog>(log: &G, mark: &BootMark) -> Option<BootOpen>
+    requires { IsBootMark mark.now }
+    ensures { MatchOption result (IsBetween (G.state log.now) mark.now) (IsMisplaced (G.state log.now) mark.now) }
+{
     let high = log.high();
     if mark.applied > high {
         return Some(BootOpen::Ahead {

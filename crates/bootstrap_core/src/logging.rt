@@ -1,6 +1,9 @@
-ghost use Rattle.std.specs.Prelude.{◌≡◌, ◌≤◌, ◌↔◌, true, length, IsErrOf};
-ghost use Rattle.bootstrap_core.specs.Boot.{told};
-ghost use Rattle.bootstrap_core.specs.Logging.{TakesLog};
+ghost use Rattle.std.specs.Prelude.{◌≡◌, ◌≤◌, ◌↔◌, true, false, List, length, take, MatchOption, IfOk, IfErr, IsErrOf, ℕ};
+ghost use Rattle.bus_types.specs.Window.{Span};
+ghost use Rattle.bus_types.specs.Timeline.{IsTimeline, IsTimelineFrom, Follows};
+ghost use Rattle.bus_wire.specs.Lawful.{IsAnswerTo, IsLawful, IsFaultAt};
+ghost use Rattle.bootstrap_core.specs.Boot.{told, Stands};
+ghost use Rattle.bootstrap_core.specs.Logging.{log_ask, TakesLog, IsAnswered, IsRelayReply, AreWindowsBehind, IsChained, first_mark, LogsEach, LogsWindow};
 
 use crate::boot::Boot;
 use crate::fault::TakeLog;
@@ -28,26 +31,22 @@ impl<G: WindowLog, K: Keeper> Boot<G, K> {
     /// those before it are kept, as they are where memory runs out. `LogFailed` comes only where the log's count rose; the
     /// bootstrap is then halted.
     pub fn take_log(&mut self, alloc: Global, reply: &[u8], n: u32) -> Result<u64, TakeLog>
-        requires { length reply.now ≤ 16777216 }
         ensures halted { IsErrOf result TakeLog.Halted ↔ (self.old.halted ≡ true) }
         ensures takes { TakesLog result n reply.now (told G.state K.state self.old) (told G.state K.state self.new) }
         ensures faults { (G.state self.old.log).faults ≤ (G.state self.new.log).faults }
+
+        // One that stands for a timeline still does after a reply that is true of it, unless it is halted.
+        ensures stands { (ws : List Span) → IsTimeline ws → Stands ws (told G.state K.state self.old) → IsRelayReply ws (G.state self.old.log).high reply.now →
+            self.new.halted ≡ false → Stands ws (told G.state K.state self.new) }
     {
         if self.halted {
             return Err(TakeLog::Halted);
         }
         let high = self.log.high();
-        let ask = Ask::Stream {
-            scn: high,
-            filter: Filter::everything(),
-            max: MOST_BYTES,
-        };
-        match check_reply(&ask, reply) {
-            Err(fault) => Err(TakeLog::BadReply { place: fault.place }),
-            Ok(Shape::Windows { .. }) => self.log_windows(alloc, high, reply, n),
-            Ok(Shape::Only(Answer::NotFound(floor))) => Err(TakeLog::Gap { floor }),
-            Ok(Shape::Only(_)) => Ok(high),
-            Ok(Shape::Rows { .. } | Shape::Changes { .. }) => unreachable!(),
+        match shape_of(high, reply)? {
+            Shape::Windows { .. } => self.log_windows(alloc, high, reply, n),
+            Shape::Only(answer) => answered(high, &answer),
+            Shape::Rows { .. } | Shape::Changes { .. } => unreachable!(),
         }
     }
 
@@ -58,23 +57,39 @@ impl<G: WindowLog, K: Keeper> Boot<G, K> {
         high: u64,
         reply: &[u8],
         n: u32,
-    ) -> Result<u64, TakeLog> {
+    ) -> Result<u64, TakeLog>
+        requires high { high ≡ (G.state self.old.log).high }
+        requires windows { (ws : List Span) × AreWindowsBehind high reply.now ws }
+        ensures takes { TakesLog result n reply.now (told G.state K.state self.old) (told G.state K.state self.new) }
+        ensures faults { (G.state self.old.log).faults ≤ (G.state self.new.log).faults }
+        ensures runs { IsErrOf result TakeLog.Halted → ⊥ }
+    {
         let windows = split(alloc, high, reply)?;
-        if let Some(first) = windows.first() {
-            if first.prev() != high {
-                return Err(TakeLog::BadReply {
-                    place: first.size() - MARK_SIZE,
-                });
-            }
+        match unchained_mark(&windows, high) {
+            Some(place) => Err(TakeLog::BadReply { place }),
+            None => self.log_each(alloc, first_of(&windows, n)),
         }
-        for window in first_of(&windows, n) {
+    }
+
+    // Appends windows.
+    fn log_each(&mut self, alloc: Global, windows: &[Window]) -> Result<u64, TakeLog>
+        requires { IsTimelineFrom (G.state self.old.log).high windows.now }
+        ensures logs { LogsEach result windows.now (told G.state K.state self.old) (told G.state K.state self.new) }
+        ensures high { IfOk result (λ high. high ≡ (G.state self.new.log).high) }
+        ensures faults { (G.state self.old.log).faults ≤ (G.state self.new.log).faults }
+    {
+        for window in windows {
             self.log_window(alloc, window)?;
         }
         Ok(self.log.high())
     }
 
     // Appends a window.
-    fn log_window(&mut self, alloc: Global, window: &Window) -> Result<(), TakeLog> {
+    fn log_window(&mut self, alloc: Global, window: &Window) -> Result<(), TakeLog>
+        requires { Follows (G.state self.old.log).high window.now }
+        ensures logs { LogsWindow result window.now (told G.state K.state self.old) (told G.state K.state self.new) }
+        ensures faults { (G.state self.old.log).faults ≤ (G.state self.new.log).faults }
+    {
         match self.log.append(alloc, window) {
             Ok(()) => Ok(()),
             Err(LogFault::Full) => Err(TakeLog::Full {
@@ -89,8 +104,39 @@ impl<G: WindowLog, K: Keeper> Boot<G, K> {
     }
 }
 
+// What the reply to who asked for the windows behind an SCN is.
+fn shape_of(high: u64, reply: &[u8]) -> Result<Shape, TakeLog>
+    ensures lawful { IfOk result (IsLawful (log_ask high) reply.now) }
+    ensures fault { IfErr result (λ fault. (place : ℕ) × (fault ≡ TakeLog.BadReply place) × IsFaultAt (log_ask high) reply.now place) }
+{
+    let ask = Ask::Stream {
+        scn: high,
+        filter: Filter::everything(),
+        max: MOST_BYTES,
+    };
+    match check_reply(&ask, reply) {
+        Ok(shape) => Ok(shape),
+        Err(fault) => Err(TakeLog::BadReply { place: fault.place }),
+    }
+}
+
+// What a lawful answer to who asked for the windows behind an SCN makes.
+fn answered(high: u64, answer: &Answer) -> Result<u64, TakeLog>
+    requires { IsAnswerTo (log_ask high) answer.now }
+    ensures { IsAnswered result high answer.now }
+{
+    match *answer {
+        Answer::NotFound(floor) => Err(TakeLog::Gap { floor }),
+        _ => Ok(high),
+    }
+}
+
 // The windows of a reply, behind an SCN.
-fn split(alloc: Global, high: u64, reply: &[u8]) -> Result<Vec<Window>, TakeLog> {
+fn split(alloc: Global, high: u64, reply: &[u8]) -> Result<Vec<Window>, TakeLog>
+    requires { (ws : List Span) × AreWindowsBehind high reply.now ws }
+    ensures windows { IfOk result (λ windows. AreWindowsBehind high reply.now windows.items) }
+    ensures fault { IfErr result (λ fault. fault ≡ TakeLog.NoMemory) }
+{
     let mut windows = Vec::new(alloc);
     match Splitter::new(alloc, high).feed(reply, &mut windows) {
         Ok(()) => Ok(windows),
@@ -99,8 +145,21 @@ fn split(alloc: Global, high: u64, reply: &[u8]) -> Result<Vec<Window>, TakeLog>
     }
 }
 
+// The place of the first window's mark, where that window doesn't follow an SCN.
+fn unchained_mark(windows: &[Window], scn: u64) -> Option<u64>
+    ensures { MatchOption result (IsChained scn windows.now) (λ place. (IsChained scn windows.now → ⊥) × (place ≡ first_mark windows.now)) }
+{
+    let first = windows.first()?;
+    if first.prev() == scn {
+        return None;
+    }
+    Some(first.size() - MARK_SIZE)
+}
+
 // The first so many windows, or those there are.
-fn first_of(windows: &[Window], n: u32) -> &[Window] {
+fn first_of(windows: &[Window], n: u32) -> &[Window]
+    ensures { result.now ≡ take n windows.now }
+{
     if (n as usize) < windows.len() {
         &windows[..n as usize]
     } else {

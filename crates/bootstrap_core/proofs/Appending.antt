@@ -1,0 +1,158 @@
+-- Windows that are appended to the log of a bootstrap, one after the other.
+use Rattle.std.proofs.Common.{◌≡◌, ℕ, zero, suc, ◌+◌, ◌<◌, ◌≤◌, inl, inr, List, [], ◌∷◌, ◌++◌, length, get_or, take, Option, Some, None, Result, Ok, Err, refl, sym, ap, subst, ◌∙◌, append_assoc, append-nil, arith}
+use Rattle.std.specs.Prelude.{option_map, slice_get, IfOk}
+use Rattle.std.proofs.lemmas.List.{take_more, take_all, take-take, length-take}
+use Rattle.std.proofs.lemmas.Option.{slice_get-get_or}
+use Rattle.bus_types.specs.Window.{Span}
+use Rattle.bus_types.specs.Timeline.{Follows, IsTimelineFrom, end_from, end_of}
+use Rattle.bus_types.proofs.Stretches.{end_from-append, follows_at}
+use Rattle.event_codec.specs.declared.answer.Answer.{Answer}
+use Rattle.event_codec.specs.declared.reply.Shape.TheVariants as shapes
+use Rattle.bus_wire.specs.Lawful.{IsLawful}
+use Rattle.bootstrap_core.specs.declared.fault.TakeLog.{TakeLog}
+use Rattle.bootstrap_core.specs.declared.fault.TakeLog.TheVariants.{BadReply, Gap, Full, LogFailed, Halted, NoMemory}
+use Rattle.bootstrap_core.specs.Boot.{BootState}
+use Rattle.bootstrap_core.specs.Logging.{log_ask, IsAnswered, AreWindowsBehind, IsChained, Logged, LogsWindow, LogsEach, TakesLog}
+
+-- ---- what was appended
+
+kept : (told : Option (List Span)) → told ≡ option_map (λ held. held ++ []) told
+kept None = refl
+kept (Some held) = ap Some (sym (append-nil held))
+
+pub logs_none : (s : BootState) → Logged [] s s
+logs_none s = record { floor = refl; high = refl; windows = kept s.log.windows; room = refl; keeper = refl; mark = refl; halted = refl }
+
+kept_twice : (xs ys : List Span) (told : Option (List Span)) → option_map (λ held. held ++ ys) (option_map (λ held. held ++ xs) told) ≡ option_map (λ held. held ++ (xs ++ ys)) told
+kept_twice xs ys None = refl
+kept_twice xs ys (Some held) = ap Some (append_assoc held xs ys)
+
+logs_joined : (xs ys : List Span) (old mid new : BootState) → Logged xs old mid → Logged ys mid new → Logged (xs ++ ys) old new
+logs_joined xs ys old mid new a b = record {
+  floor = b.floor ∙ a.floor;
+  high = b.high ∙ ap (λ n. end_from n ys) a.high ∙ sym (end_from-append old.log.high xs ys);
+  windows = b.windows ∙ ap (option_map (λ held. held ++ ys)) a.windows ∙ kept_twice xs ys old.log.windows;
+  room = b.room ∙ a.room;
+  keeper = b.keeper ∙ a.keeper;
+  mark = b.mark ∙ a.mark;
+  halted = b.halted ∙ a.halted;
+}
+
+logs_same : (xs : List Span) (old mid new : BootState) → Logged xs old mid → Logged [] mid new → Logged xs old new
+logs_same xs old mid new a b = subst (λ (ws : List Span). Logged ws old new) (append-nil xs) (logs_joined xs [] old mid new a b)
+
+-- ---- one window more
+
+module _ (ws : List Span) (i : ℕ) (w : Span) (old mid new : BootState) (within : i < length ws) (at : w ≡ get_or ws i w) where
+  there : slice_get ws i ≡ Some w
+  there = slice_get-get_or ws i w within ∙ ap Some (sym at)
+
+  -- it follows those before it
+  pub next_follows : IsTimelineFrom old.log.high ws → Logged (take i ws) old mid → Follows mid.log.high w
+  next_follows t a = subst (λ n. Follows n w) (sym a.high) (follows_at old.log.high i ws w t there)
+
+  -- it was appended
+  pub logs_more : Logged (take i ws) old mid → Logged (w ∷ []) mid new → Logged (take (i + 1) ws) old new
+  logs_more a b =
+      let more : take i ws ++ w ∷ [] ≡ take (i + 1) ws = ap (λ v. take i ws ++ v ∷ []) at ∙ sym (take_more ws i w within) in
+      subst (λ (xs : List Span). Logged xs old new) more (logs_joined (take i ws) (w ∷ []) old mid new a b)
+
+  -- it wasn't
+  pub logs_broken : (X : Type 0) (fault : TakeLog) → Logged (take i ws) old mid → old.log.faults ≤ mid.log.faults → LogsWindow (Err fault) w mid new → LogsEach {X = X} (Err fault) ws old new
+  logs_broken X (BadReply place) a later b = b
+  logs_broken X (Gap floor) a later b = b
+  logs_broken X (Full need) a later b = record {
+    done = i;
+    some = within;
+    logged = logs_same (take i ws) old mid new a b.2;
+    next = w;
+    is_next = there;
+    need_is = b.0;
+    full = b.1;
+  }
+  logs_broken X LogFailed a later b =
+      let rose = b.rose in
+      record { halted = b.halted; rose = omega arith; keeper = b.keeper ∙ a.keeper; mark = b.mark ∙ a.mark }
+  logs_broken X Halted a later b = b
+  logs_broken X NoMemory a later b = record { done = i; some = within; logged = logs_same (take i ws) old mid new a b }
+
+-- all were
+pub logs_all : (ws : List Span) (i : ℕ) (old new : BootState) → length ws ≤ i → Logged (take i ws) old new → Logged ws old new
+logs_all ws i old new past a = subst (λ (xs : List Span). Logged xs old new) (take_all i ws past) a
+
+-- ---- the windows of a reply
+
+slice_get-take : {X : Type 0} (n k : ℕ) (xs : List X) (x : X) → slice_get (take n xs) k ≡ Some x → slice_get xs k ≡ Some x
+slice_get-take zero k xs x e = absurd (cc e)
+slice_get-take (suc n) k [] x e = e
+slice_get-take (suc n) zero (y ∷ xs) x e = e
+slice_get-take (suc n) (suc k) (y ∷ xs) x e = slice_get-take n k xs x e
+
+front_of_front : (done count : ℕ) (ws : List Span) (old new : BootState) → done < length (take count ws) → Logged (take done (take count ws)) old new → Logged (take done ws) old new
+front_of_front done count ws old new some a =
+    let few : done ≤ count = omega (arith, some, length-take count ws) in
+    subst (λ (xs : List Span). Logged xs old new) (take-take done count ws few) a
+
+-- the first so many windows of a reply were to be appended
+pub logs_takes : (result : Result ℕ TakeLog) (count : ℕ) (bytes : List ℕ) (ws : List Span) (old new : BootState) → AreWindowsBehind old.log.high bytes ws → IsChained old.log.high ws
+    → LogsEach result (take count ws) old new → IfOk result (λ high. high ≡ new.log.high) → TakesLog result count bytes old new
+logs_takes (Ok scn) count bytes ws old new are chained logs high = record {
+  shape = shapes.Windows (length ws) (end_of ws);
+  lawful = record { windows = ws; spelled = are.spelled; run = are.run; counted = refl; ends = refl };
+  windows = ws;
+  are = inr (are, chained);
+  logged = logs;
+  high = high;
+}
+logs_takes (Err (BadReply place)) count bytes ws old new are chained logs high = absurd logs
+logs_takes (Err (Gap floor)) count bytes ws old new are chained logs high = absurd logs
+logs_takes (Err (Full need)) count bytes ws old new are chained logs high = record {
+  windows = ws;
+  are = are;
+  chained = chained;
+  done = logs.done;
+  some = logs.some;
+  logged = front_of_front logs.done count ws old new logs.some logs.logged;
+  next = logs.next;
+  is_next = slice_get-take count logs.done ws logs.next logs.is_next;
+  need_is = logs.need_is;
+  full = logs.full;
+}
+logs_takes (Err LogFailed) count bytes ws old new are chained logs high = logs
+logs_takes (Err Halted) count bytes ws old new are chained logs high = absurd logs
+logs_takes (Err NoMemory) count bytes ws old new are chained logs high = record {
+  windows = ws;
+  are = are;
+  done = logs.done;
+  chained = λ _. chained;
+  some = λ _. logs.some;
+  logged = front_of_front logs.done count ws old new logs.some logs.logged;
+}
+
+-- an answer was taken
+pub answer_takes : (result : Result ℕ TakeLog) (count : ℕ) (bytes : List ℕ) (s : BootState) (answer : Answer) → IsLawful (log_ask s.log.high) bytes (shapes.Only answer) → IsAnswered result s.log.high answer → TakesLog result count bytes s s
+answer_takes (Ok scn) count bytes s answer lawful is = record {
+  shape = shapes.Only answer;
+  lawful = lawful;
+  windows = [];
+  are = inl (is.1.0, ap shapes.Only is.1.1, refl);
+  logged = subst (λ (xs : List Span). Logged xs s s) (sym (take_all count [] (omega arith))) (logs_none s);
+  high = is.0;
+}
+answer_takes (Err (BadReply place)) count bytes s answer lawful is = absurd is
+answer_takes (Err (Gap floor)) count bytes s answer lawful is = (refl, subst (λ (a : Answer). IsLawful (log_ask s.log.high) bytes (shapes.Only a)) is lawful)
+answer_takes (Err (Full need)) count bytes s answer lawful is = absurd is
+answer_takes (Err LogFailed) count bytes s answer lawful is = absurd is
+answer_takes (Err Halted) count bytes s answer lawful is = absurd is
+answer_takes (Err NoMemory) count bytes s answer lawful is = absurd is
+
+-- memory ran out before a window was appended
+pub takes_none : (count : ℕ) (bytes : List ℕ) (ws : List Span) (s : BootState) → AreWindowsBehind s.log.high bytes ws → TakesLog (Err NoMemory) count bytes s s
+takes_none count bytes ws s are = record {
+  windows = ws;
+  are = are;
+  done = 0;
+  chained = λ h. absurd (omega (arith, h));
+  some = λ h. absurd (omega (arith, h));
+  logged = logs_none s;
+}

@@ -1,0 +1,4 @@
+pub mod ReplyWindows
+pub mod Appending
+pub mod Opened
+pub mod LogStands
