@@ -3,6 +3,7 @@
 //! lie in memory or in a database.
 #![tactic(auto)]
 
+mod boot_fault;
 mod entries;
 mod following;
 mod keeper;
@@ -15,6 +16,7 @@ mod plan;
 mod table;
 mod taking;
 
+pub use boot_fault::BootFault;
 pub use following::next_windows;
 pub use keeper::{Keeper, Stop, StoreFault};
 pub use laws::worked_commits;
