@@ -3,3 +3,5 @@ pub mod Entries
 pub mod Memory
 pub mod Taking
 pub mod Worked
+pub mod Log
+pub mod MemoryLog

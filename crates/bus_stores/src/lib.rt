@@ -6,7 +6,9 @@
 mod entries;
 mod keeper;
 mod laws;
+mod log;
 mod memory;
+mod memory_log;
 mod paging;
 mod plan;
 mod table;
@@ -14,7 +16,9 @@ mod taking;
 
 pub use keeper::{Keeper, Stop, StoreFault};
 pub use laws::worked_commits;
+pub use log::{LogFault, WindowLog};
 pub use memory::MemoryKeeper;
+pub use memory_log::MemoryLog;
 pub use paging::all_rows;
 pub use plan::Fail;
 pub use taking::{Commit, take};

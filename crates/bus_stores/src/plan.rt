@@ -2,6 +2,7 @@ ghost use Rattle.std.specs.Prelude.{◌≡◌, ◌≤◌, IfOk};
 ghost use Rattle.bus_stores.specs.Memory.{next_count, stop_at, listed_stop};
 
 use crate::keeper::{Stop, StoreFault};
+use crate::log::LogFault;
 use bus_types::NoMemory;
 use std::alloc::Global;
 
@@ -49,6 +50,16 @@ impl Plan {
         let call = self.calls;
         self.calls = call.saturating_add(1);
         listed_stop(&self.fails, call)
+    }
+
+    /// Counts a fault of a log.
+    pub fn log_fault(&mut self) -> LogFault
+        ensures fault { result ≡ LogFault.Failed }
+        ensures counted { self.new ≡ record self.old { faults = next_count self.old.faults } }
+        ensures later { self.old.faults ≤ self.new.faults }
+    {
+        self.faults = self.faults.saturating_add(1);
+        LogFault::Failed
     }
 
     /// Counts a fault.

@@ -1,0 +1,124 @@
+-- What a log of windows tells of itself, and what its calls do to that.
+use Rattle.std.specs.Prelude.{◌≡◌, ℕ, ◌+◌, ◌<◌, ◌≤◌, max, Bool, true, false, nat_lt, List, [], ◌∷◌, ◌++◌, find, Option, Some, None, option_map, IfSome, IfNone, Result, Ok, Err, IfOk}
+use Rattle.bus_types.specs.declared.limits.TheConstants.{MAX_SCN}
+use Rattle.bus_types.specs.Causes.{Rose}
+use Rattle.bus_types.specs.Window.{Span, span_size}
+use Rattle.bus_types.specs.Timeline.{IsTimelineFrom, end_from, total_size, windows_between}
+use Rattle.bus_stores.specs.declared.log.LogFault.{LogFault}
+use Rattle.bus_stores.specs.declared.log.LogFault.TheVariants.{Failed, Full, NoMemory}
+
+-- ---- what it tells
+
+-- the most bytes of windows in full that it holds, and whether none of its calls fails
+pub record LogRoom : Type 0 where
+  pub limit : ℕ
+  pub sound : Bool
+
+-- what a log tells: the SCN behind which its windows begin, that of its newest window, or the same where it has none; its
+-- windows and its room, where it tells them; which sizes find no room; and how often it failed
+pub record LogState : Type 0 where
+  pub floor : ℕ
+  pub high : ℕ
+  pub windows : Option (List Span)
+  pub room : Option LogRoom
+  pub full : ℕ → Bool
+  pub faults : ℕ
+
+-- windows that follow the floor and each other up to the newest one
+pub record Holds (floor high : ℕ) (windows : List Span) : Type 0 where
+  pub chained : IsTimelineFrom floor windows
+  pub ends : end_from floor windows ≡ high
+
+-- a size finds no room exactly where it and those of the windows sum to more than the limit
+abbrev pub IsRoomy : (ℕ → Bool) → List Span → LogRoom → Type 0
+IsRoomy full windows room = (size : ℕ) → full size ≡ nat_lt room.limit (total_size windows + size)
+
+-- what is true of every log, whatever it tells
+pub record IsLog (s : LogState) : Type 0 where
+  pub low : s.floor ≤ s.high
+  pub within : s.high ≤ MAX_SCN
+  pub holds : IfSome s.windows (λ ws. Holds s.floor s.high ws)
+  pub roomy : IfSome s.windows (λ ws. IfSome s.room (λ room. IsRoomy s.full ws room))
+
+-- ---- what each call leaves
+
+-- where a call answers `Failed`
+abbrev pub OnLogFailed : {X : Type 0} → Result X LogFault → Type 0 → Type 0
+OnLogFailed (Ok x) P = Unit {0}
+OnLogFailed (Err Failed) P = P
+OnLogFailed (Err Full) P = Unit {0}
+OnLogFailed (Err NoMemory) P = Unit {0}
+
+-- every call: the count of faults never falls, it answers `Failed` only where that rose, and never at a sound log; its room
+-- stays as it was
+pub record LogCounts {X : Type 0} (old new : LogState) (result : Result X LogFault) : Type 0 where
+  pub faults : old.faults ≤ new.faults
+  pub failed : OnLogFailed result (Rose old.faults new.faults)
+  pub sound : OnLogFailed result (IfSome old.room (λ room. room.sound ≡ false))
+  pub room : new.room ≡ old.room
+
+-- all but the count is as it was
+abbrev pub SameLog : LogState → LogState → Type 0
+SameLog old new = new ≡ record old { faults = new.faults }
+
+-- a window was appended
+pub record Appended (w : Span) (old new : LogState) : Type 0 where
+  pub free : old.full (span_size w) ≡ false
+  pub floor : new.floor ≡ old.floor
+  pub high : new.high ≡ w.scn
+  pub windows : new.windows ≡ option_map (λ ws. ws ++ w ∷ []) old.windows
+
+-- what an append leaves, by its answer; after `Failed` the log is opened again
+abbrev pub AppendLeaves : Span → LogState → LogState → Result Unit LogFault → Type 0
+AppendLeaves w old new (Ok done) = Appended w old new
+AppendLeaves w old new (Err Failed) = Unit {0}
+AppendLeaves w old new (Err Full) = (old.full (span_size w) ≡ true) × SameLog old new
+AppendLeaves w old new (Err NoMemory) = SameLog old new
+
+-- a call that appends a window
+pub record AppendsWindow (w : Span) (old new : LogState) (result : Result Unit LogFault) : Type 0 where
+  pub counts : LogCounts old new result
+  pub leaves : AppendLeaves w old new result
+
+-- the oldest window behind an SCN
+abbrev pub first_after : ℕ → List Span → Option Span
+first_after scn ws = find (λ w. nat_lt scn w.scn) ws
+
+-- what is found behind an SCN up to the newest window: a window, or nothing where there is none
+pub record IsFound (scn high : ℕ) (found : Option Span) : Type 0 where
+  pub window : IfSome found (λ w. (scn < w.scn) × (w.scn ≤ high))
+  pub none : IfNone found (high ≤ scn)
+
+-- where a call answers `Full`
+abbrev pub OnFull : {X : Type 0} → Result X LogFault → Type 0 → Type 0
+OnFull (Ok x) P = Unit {0}
+OnFull (Err Failed) P = Unit {0}
+OnFull (Err Full) P = P
+OnFull (Err NoMemory) P = Unit {0}
+
+-- a call that reads the next window behind an SCN: it changes nothing and never answers `Full`
+pub record ReadsNext (scn : ℕ) (old new : LogState) (result : Result (Option Span) LogFault) : Type 0 where
+  pub counts : LogCounts old new result
+  pub same : SameLog old new
+  pub found : IfOk result (λ found. IsFound scn old.high found)
+  pub told : IfOk result (λ found. IfSome old.windows (λ ws. found ≡ first_after scn ws))
+  pub roomy : OnFull result ⊥
+
+-- windows up to an SCN were dropped, or some of the oldest of them
+pub record Dropped (scn : ℕ) (old new : LogState) : Type 0 where
+  pub later : old.floor ≤ new.floor
+  pub upto : new.floor ≤ max old.floor scn
+  pub high : new.high ≡ old.high
+  pub windows : new.windows ≡ option_map (windows_between new.floor old.high) old.windows
+
+-- what a drop leaves, by its answer; after `Failed` the log is opened again
+abbrev pub DropLeaves : ℕ → LogState → LogState → Result Unit LogFault → Type 0
+DropLeaves scn old new (Ok done) = Dropped scn old new
+DropLeaves scn old new (Err Failed) = Unit {0}
+DropLeaves scn old new (Err Full) = ⊥
+DropLeaves scn old new (Err NoMemory) = SameLog old new
+
+-- a call that drops windows
+pub record DropsWindows (scn : ℕ) (old new : LogState) (result : Result Unit LogFault) : Type 0 where
+  pub counts : LogCounts old new result
+  pub leaves : DropLeaves scn old new result

@@ -1,0 +1,62 @@
+-- What a log in memory is to a contract.
+use Rattle.std.specs.Prelude.{◌≡◌, ℕ, ◌+◌, ◌≤◌, nat_lt, List, [], Option, Some, None, Result, Ok, Err}
+use Rattle.bus_types.specs.declared.limits.TheConstants.{MAX_SCN}
+use Rattle.bus_types.specs.Window.{Span}
+use Rattle.bus_types.specs.Timeline.{IsTimelineFrom, end_from, total_size}
+use Rattle.bus_stores.specs.declared.keeper.Stop.{Stop}
+use Rattle.bus_stores.specs.declared.plan.Fail.{Fail}
+use Rattle.bus_stores.specs.declared.log.LogFault.{LogFault}
+use Rattle.bus_stores.specs.declared.log.LogFault.TheVariants.{Failed, Full, NoMemory}
+use Rattle.bus_stores.specs.Memory.{no_fails, next_count, listed_stop}
+use Rattle.bus_stores.specs.Log.{LogState}
+
+-- its windows, the SCN behind which they begin, the most bytes that it holds, the calls that are to fail, and how many calls
+-- were made and have failed
+pub record MemoryWindows : Type 0 where
+  pub windows : List Span
+  pub floor : ℕ
+  pub limit : ℕ
+  pub fails : List Fail
+  pub calls : ℕ
+  pub faults : ℕ
+
+abbrev pub new_windows : ℕ → List Fail → MemoryWindows
+new_windows limit fails = record { windows = []; floor = 0; limit = limit; fails = fails; calls = 0; faults = 0 }
+
+-- it tells everything, and is sound where no call is to fail
+abbrev pub log_of : MemoryWindows → LogState
+log_of s = record {
+  floor = s.floor;
+  high = end_from s.floor s.windows;
+  windows = Some s.windows;
+  room = Some (record { limit = s.limit; sound = no_fails s.fails });
+  full = λ size. nat_lt s.limit (total_size s.windows + size);
+  faults = s.faults;
+}
+
+-- its windows follow each other from its floor on, in at most so many bytes as it holds
+pub record AreKept (floor : ℕ) (windows : List Span) (size limit : ℕ) : Type 0 where
+  pub chained : IsTimelineFrom floor windows
+  pub low : floor ≤ MAX_SCN
+  pub bytes : size ≡ total_size windows
+  pub room : size ≤ limit
+
+-- the stop that the next call meets
+abbrev pub log_stop : MemoryWindows → Option Stop
+log_stop s = listed_stop s.fails s.calls
+
+-- a call fails exactly where it is listed; one that is to fail after it counts may run out of memory instead
+abbrev pub LogFailsAt : {X : Type 0} → Option Stop → Result X LogFault → Type 0
+LogFailsAt None (Ok x) = Unit {0}
+LogFailsAt None (Err Failed) = ⊥
+LogFailsAt None (Err Full) = Unit {0}
+LogFailsAt None (Err NoMemory) = Unit {0}
+LogFailsAt (Some stop) (Ok x) = ⊥
+LogFailsAt (Some stop) (Err Failed) = Unit {0}
+LogFailsAt (Some stop) (Err Full) = ⊥
+LogFailsAt (Some stop) (Err NoMemory) = Unit {0}
+
+-- a call was counted, and the calls that are to fail are the same
+pub record CountsLogCall (old new : MemoryWindows) : Type 0 where
+  pub calls : new.calls ≡ next_count old.calls
+  pub fails : new.fails ≡ old.fails
