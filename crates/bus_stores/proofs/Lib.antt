@@ -4,3 +4,6 @@ pub mod Reading
 pub mod Storing
 pub mod Held
 pub mod Fronts
+pub mod KeptWindows
+pub mod LogCalls
+pub mod Ahead

@@ -5,3 +5,4 @@ pub mod Taking
 pub mod Worked
 pub mod Log
 pub mod MemoryLog
+pub mod Following

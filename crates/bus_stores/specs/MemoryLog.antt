@@ -1,8 +1,8 @@
 -- What a log in memory is to a contract.
-use Rattle.std.specs.Prelude.{◌≡◌, ℕ, ◌+◌, ◌≤◌, nat_lt, List, [], Option, Some, None, Result, Ok, Err}
+use Rattle.std.specs.Prelude.{◌≡◌, ℕ, ◌+◌, ◌≤◌, max, true, false, nat_lt, List, [], ◌∷◌, ◌++◌, take, drop, Option, Some, None, Result, Ok, Err}
 use Rattle.bus_types.specs.declared.limits.TheConstants.{MAX_SCN}
-use Rattle.bus_types.specs.Window.{Span}
-use Rattle.bus_types.specs.Timeline.{IsTimelineFrom, end_from, total_size}
+use Rattle.bus_types.specs.Window.{Span, span_size}
+use Rattle.bus_types.specs.Timeline.{IsTimelineFrom, end_from, total_size, windows_between}
 use Rattle.bus_stores.specs.declared.keeper.Stop.{Stop}
 use Rattle.bus_stores.specs.declared.plan.Fail.{Fail}
 use Rattle.bus_stores.specs.declared.log.LogFault.{LogFault}
@@ -60,3 +60,33 @@ LogFailsAt (Some stop) (Err NoMemory) = Unit {0}
 pub record CountsLogCall (old new : MemoryWindows) : Type 0 where
   pub calls : new.calls ≡ next_count old.calls
   pub fails : new.fails ≡ old.fails
+
+-- ---- what a call does
+
+-- a call begins
+abbrev pub log_begun : MemoryWindows → MemoryWindows
+log_begun s = record s { calls = next_count s.calls }
+
+-- a call fails
+abbrev pub log_failed : MemoryWindows → MemoryWindows
+log_failed s = record s { faults = next_count s.faults }
+
+-- a window stands behind the others
+abbrev pub with_window : Span → MemoryWindows → MemoryWindows
+with_window w s = record s { windows = s.windows ++ w ∷ [] }
+
+-- so many of the oldest windows are dropped
+abbrev pub without_front : ℕ → MemoryWindows → MemoryWindows
+without_front n s = record s { windows = drop n s.windows; floor = end_from s.floor (take n s.windows) }
+
+-- a window was added, where there was room for it
+abbrev pub Pushes : Span → MemoryWindows → MemoryWindows → Result Unit LogFault → Type 0
+Pushes w old new (Ok done) = ((log_of old).full (span_size w) ≡ false) × (new ≡ with_window w old)
+Pushes w old new (Err Failed) = ⊥
+Pushes w old new (Err Full) = ((log_of old).full (span_size w) ≡ true) × (new ≡ old)
+Pushes w old new (Err NoMemory) = new ≡ old
+
+-- so many windows stand up to an SCN
+pub record IsPlaceAfter (scn floor : ℕ) (windows : List Span) (place : ℕ) : Type 0 where
+  pub behind : drop place windows ≡ windows_between scn (end_from floor windows) windows
+  pub upto : end_from floor (take place windows) ≤ max floor scn

@@ -4,6 +4,7 @@
 #![tactic(auto)]
 
 mod entries;
+mod following;
 mod keeper;
 mod laws;
 mod log;
@@ -14,6 +15,7 @@ mod plan;
 mod table;
 mod taking;
 
+pub use following::next_windows;
 pub use keeper::{Keeper, Stop, StoreFault};
 pub use laws::worked_commits;
 pub use log::{LogFault, WindowLog};

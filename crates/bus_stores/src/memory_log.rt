@@ -1,8 +1,7 @@
-ghost use Rattle.std.specs.Prelude.{◌≡◌, ◌≤◌, ◌<◌, ◌++◌, [], ◌∷◌, length, take, drop, map, option_map, IfOk, OnOk, OnErr};
-ghost use Rattle.bus_types.specs.Window.{span_size};
-ghost use Rattle.bus_types.specs.Timeline.{end_from, total_size, windows_between};
-ghost use Rattle.bus_stores.specs.Log.{AppendsWindow, ReadsNext, DropsWindows, first_after};
-ghost use Rattle.bus_stores.specs.MemoryLog.{new_windows, log_of, log_stop, LogFailsAt, CountsLogCall};
+ghost use Rattle.std.specs.Prelude.{◌≡◌, ◌≤◌, ◌<◌, length, slice_get, IfOk};
+ghost use Rattle.bus_types.specs.Timeline.{IsTimelineFrom, end_from, windows_between};
+ghost use Rattle.bus_stores.specs.Log.{AppendsWindow, ReadsNext, DropsWindows, Dropped, IsFound, first_after};
+ghost use Rattle.bus_stores.specs.MemoryLog.{new_windows, log_of, log_stop, log_begun, log_failed, without_front, Pushes, IsPlaceAfter, LogFailsAt, CountsLogCall};
 
 use crate::keeper::Stop;
 use crate::log::{LogFault, WindowLog};
@@ -66,10 +65,31 @@ impl MemoryLog {
         self.plan.calls
     }
 
+    // Counts a call, and answers the stop that is listed for it.
+    fn next_call(&mut self) -> Option<Stop>
+        ensures listed { result ≡ log_stop self.old }
+        ensures begun { self.new ≡ log_begun self.old }
+    {
+        self.plan.next_call()
+    }
+
+    // Fails a call.
+    fn fail(&mut self) -> LogFault
+        ensures fault { result ≡ LogFault.Failed }
+        ensures failed { self.new ≡ log_failed self.old }
+        ensures later { self.old.faults ≤ self.new.faults }
+    {
+        self.plan.log_fault()
+    }
+
     // Appends an equal window, where there is room for it.
-    fn push(&mut self, alloc: Global, window: &Window) -> Result<(), LogFault> {
+    fn push(&mut self, alloc: Global, window: &Window) -> Result<(), LogFault>
+        requires chained { window.now.prev ≡ end_from self.old.floor self.old.windows }
+        requires full { 0 < length window.now.changes }
+        ensures { Pushes window.now self.old self.new result }
+    {
         let size = window.size();
-        if self.limit - self.size < size {
+        if self.is_full(size) {
             return Err(LogFault::Full);
         }
         self.windows.push_back(window.copy(alloc)?)?;
@@ -77,17 +97,73 @@ impl MemoryLog {
         Ok(())
     }
 
-    // Drops the oldest window.
-    fn drop_oldest(&mut self) {
+    // Drops the oldest window, where there is one.
+    fn drop_oldest(&mut self)
+        ensures { self.new ≡ without_front 1 self.old }
+    {
         if let Some(oldest) = self.windows.pop_front() {
             self.size -= oldest.size();
             self.floor = oldest.scn();
         }
     }
 
+    // Drops so many of the oldest windows.
+    fn drop_front(&mut self, count: usize)
+        ensures { self.new ≡ without_front count self.old }
+    {
+        for _ in 0..count {
+            self.drop_oldest();
+        }
+    }
+
     // How many windows have an SCN of at most this one.
-    fn place_after(&self, scn: u64) -> usize {
+    fn place_after(&self, scn: u64) -> usize
+        ensures place { IsPlaceAfter scn self.now.floor self.now.windows result }
+        ensures chained { IsTimelineFrom self.now.floor self.now.windows }
+    {
         self.windows.partition_point(|window| window.scn() <= scn)
+    }
+
+    // Drops the windows up to an SCN.
+    fn drop_upto(&mut self, scn: u64)
+        ensures drops { Dropped scn (log_of self.old) (log_of self.new) }
+        ensures windows { self.new.windows ≡ windows_between scn (end_from self.old.floor self.old.windows) self.old.windows }
+        ensures rest { self.new ≡ record self.old { windows = self.new.windows; floor = self.new.floor } }
+    {
+        self.drop_front(self.place_after(scn));
+    }
+
+    // A copy of the oldest window behind an SCN.
+    fn find(&self, alloc: Global, scn: u64) -> Result<Option<Window>, NoMemory>
+        requires { self.now.floor ≤ scn }
+        ensures first { IfOk result (λ found. found ≡ first_after scn self.now.windows) }
+        ensures found { IfOk result (λ found. IsFound scn (end_from self.now.floor self.now.windows) found) }
+    {
+        copy_at(alloc, &self.windows, self.place_after(scn))
+    }
+}
+
+// The SCN of the last window, or this one where there is none.
+fn last_scn(windows: &VecDeque<Window>, floor: u64) -> u64
+    ensures { result ≡ end_from floor windows.now.items }
+{
+    match windows.back() {
+        None => floor,
+        Some(newest) => newest.scn(),
+    }
+}
+
+// A copy of the window at a place, where one stands.
+fn copy_at(
+    alloc: Global,
+    windows: &VecDeque<Window>,
+    place: usize,
+) -> Result<Option<Window>, NoMemory>
+    ensures { IfOk result (λ window. window ≡ slice_get windows.now.items place) }
+{
+    match windows.get(place) {
+        None => Ok(None),
+        Some(window) => Ok(Some(window.copy(alloc)?)),
     }
 }
 
@@ -99,10 +175,7 @@ impl WindowLog for MemoryLog {
     }
 
     fn high(&self) -> u64 {
-        match self.windows.back() {
-            None => self.floor,
-            Some(newest) => newest.scn(),
-        }
+        last_scn(&self.windows, self.floor)
     }
 
     fn is_full(&self, size: u64) -> bool {
@@ -110,31 +183,31 @@ impl WindowLog for MemoryLog {
     }
 
     fn append(&mut self, alloc: Global, window: &Window) -> Result<(), LogFault>
+        requires chained { window.now.prev ≡ (log_of self.old).high }
+        requires full { 0 < length window.now.changes }
         ensures append { AppendsWindow window.now (log_of self.old) (log_of self.new) result }
         ensures exact { LogFailsAt (log_stop self.old) result }
         ensures numbered { CountsLogCall self.old self.new }
     {
-        match self.plan.next_call() {
+        match self.next_call() {
             None => self.push(alloc, window),
-            Some(Stop::Before) => Err(self.plan.log_fault()),
+            Some(Stop::Before) => Err(self.fail()),
             Some(Stop::After) => {
                 let _ = self.push(alloc, window);
-                Err(self.plan.log_fault())
+                Err(self.fail())
             }
         }
     }
 
     fn next(&mut self, alloc: Global, scn: u64) -> Result<Option<Window>, LogFault>
+        requires { (log_of self.old).floor ≤ scn }
         ensures next { ReadsNext scn (log_of self.old) (log_of self.new) result }
         ensures exact { LogFailsAt (log_stop self.old) result }
         ensures numbered { CountsLogCall self.old self.new }
     {
-        if self.plan.next_call().is_some() {
-            return Err(self.plan.log_fault());
-        }
-        match self.windows.get(self.place_after(scn)) {
-            None => Ok(None),
-            Some(window) => Ok(Some(window.copy(alloc)?)),
+        match self.next_call() {
+            None => Ok(self.find(alloc, scn)?),
+            Some(_) => Err(self.fail()),
         }
     }
 
@@ -143,15 +216,16 @@ impl WindowLog for MemoryLog {
         ensures exact { LogFailsAt (log_stop self.old) result }
         ensures numbered { CountsLogCall self.old self.new }
     {
-        let stop = self.plan.next_call();
-        if stop != Some(Stop::Before) {
-            for _ in 0..self.place_after(scn) {
-                self.drop_oldest();
+        match self.next_call() {
+            None => {
+                self.drop_upto(scn);
+                Ok(())
             }
-        }
-        match stop {
-            None => Ok(()),
-            Some(_) => Err(self.plan.log_fault()),
+            Some(Stop::Before) => Err(self.fail()),
+            Some(Stop::After) => {
+                self.drop_upto(scn);
+                Err(self.fail())
+            }
         }
     }
 }

@@ -52,13 +52,21 @@ impl Plan {
         listed_stop(&self.fails, call)
     }
 
+    // Counts a fault.
+    fn count_fault(&mut self)
+        ensures counted { self.new ≡ record self.old { faults = next_count self.old.faults } }
+        ensures later { self.old.faults ≤ self.new.faults }
+    {
+        self.faults = self.faults.saturating_add(1);
+    }
+
     /// Counts a fault of a log.
     pub fn log_fault(&mut self) -> LogFault
         ensures fault { result ≡ LogFault.Failed }
         ensures counted { self.new ≡ record self.old { faults = next_count self.old.faults } }
         ensures later { self.old.faults ≤ self.new.faults }
     {
-        self.faults = self.faults.saturating_add(1);
+        self.count_fault();
         LogFault::Failed
     }
 
@@ -68,7 +76,7 @@ impl Plan {
         ensures counted { self.new ≡ record self.old { faults = next_count self.old.faults } }
         ensures later { self.old.faults ≤ self.new.faults }
     {
-        self.faults = self.faults.saturating_add(1);
+        self.count_fault();
         StoreFault::Failed
     }
 }

@@ -1,0 +1,30 @@
+use Rattle.std.proofs.Common.{◌<◌, ◌≤◌, length, Ok, subst, arith}
+use Rattle.bus_stores.specs.Log.{ReadsNext}
+use Rattle.bus_stores.proofs.Ahead.{reads_behind, unmoved_more, read_more, read_done}
+use Rattle.bus_stores.proofs.following.next_windows.Goals as goal
+use Rattle.bus_stores.proofs.following.next_windows.Goals.{then-reads-test+else-at-high, else-reads-test}
+
+pub next-requires : goal.next-requires
+next-requires g c =
+    reads_behind c.args.scn c.reads.at c.args.most (g.G.WindowLog.state c.args.log.now) (g.G.WindowLog.state c.reads.log) c.reads.windows.items c.requires c.reads.invariant.unmoved c.reads.invariant.read
+
+pub reads-preserved : goal.reads-preserved
+reads-preserved g c =
+    let old = g.G.WindowLog.state c.args.log.now in
+    let now = g.G.WindowLog.state c.reads.log in
+    let new = g.G.WindowLog.state c.next.new.self in
+    let next = subst (λ found. ReadsNext c.reads.at now new (Ok found)) c.in-Some.is c.in_ok-window.ensures in
+    let more = read_more c.args.scn c.reads.at c.args.most old now new c.reads.windows.items c.push.new.self.items c.in-Some.window c.high-high.ensures.log c.reads.invariant.unmoved next (omega (arith, c.len.ensures)) c.in_ok-push.ensures.items c.reads.invariant.read in
+    record {
+      unmoved = unmoved_more old now new _ c.reads.invariant.unmoved next.counts next.same;
+      read = rw c.scn-at.ensures.value more;
+    }
+
+pub returns : goal.returns
+returns g c =
+    let old = g.G.WindowLog.state c.args.log.now in
+    let none_left : length c.reads.windows.items < c.args.most → old.high ≤ c.reads.at = λ few. elim c.reads-test.branch [
+      | then-reads-test+else-at-high w ↦ omega (arith, w.if-at-high.false, c.high-high.ensures.value)
+      | else-reads-test w ↦ absurd (omega (arith, w.reads-test.false, c.len.ensures))
+    ] in
+    read_done c.args.scn c.reads.at c.args.most old (g.G.WindowLog.state c.reads.log) c.reads.windows none_left c.reads.invariant.unmoved c.reads.invariant.read
