@@ -1,5 +1,5 @@
 -- What a log of windows tells of itself, and what its calls do to that.
-use Rattle.std.specs.Prelude.{◌≡◌, ℕ, ◌+◌, ◌<◌, ◌≤◌, max, Bool, true, false, nat_lt, List, [], ◌∷◌, ◌++◌, find, Option, option_map, IfSome, IfNone, Result, Ok, Err, IfOk}
+use Rattle.std.specs.Prelude.{◌≡◌, ℕ, ◌+◌, ◌<◌, ◌≤◌, max, Bool, true, false, nat_lt, List, [], ◌∷◌, ◌++◌, find, Option, None, option_map, IfSome, IfNone, Result, Ok, Err, IfOk}
 use Rattle.bus_types.specs.declared.limits.TheConstants.{MAX_SCN}
 use Rattle.bus_types.specs.Causes.{Rose}
 use Rattle.bus_types.specs.Window.{Span, span_size}
@@ -23,6 +23,10 @@ pub record LogState : Type 0 where
   pub room : Option LogRoom
   pub full : ℕ → Bool
   pub faults : ℕ
+
+-- a log that tells neither its windows nor its room, with a count of faults of its own
+abbrev pub untold_log : ℕ → LogState → LogState
+untold_log faults s = record s { windows = None; room = None; faults = faults }
 
 -- windows that follow the floor and each other up to the newest one
 pub record Holds (floor high : ℕ) (windows : List Span) : Type 0 where

@@ -1,7 +1,8 @@
-ghost use Rattle.std.specs.Prelude.{◌≡◌, ◌≤◌, ◌<◌, length, slice_get, IfOk};
+ghost use Rattle.std.specs.Prelude.{◌≡◌, ◌≤◌, ◌<◌, false, length, slice_get, IfOk, OnOk, OnErr};
+ghost use Rattle.bus_types.specs.Window.{span_size};
 ghost use Rattle.bus_types.specs.Timeline.{IsTimelineFrom, end_from, windows_between};
 ghost use Rattle.bus_stores.specs.Log.{AppendsWindow, ReadsNext, DropsWindows, Dropped, IsFound, first_after};
-ghost use Rattle.bus_stores.specs.MemoryLog.{new_windows, log_of, log_stop, log_begun, log_failed, without_front, Pushes, IsPlaceAfter, LogFailsAt, CountsLogCall};
+ghost use Rattle.bus_stores.specs.MemoryLog.{new_windows, log_of, log_stop, log_begun, log_failed, with_window, without_front, Pushes, IsPlaceAfter, LogFailsAt, CountsLogCall};
 
 use crate::keeper::Stop;
 use crate::log::{LogFault, WindowLog};
@@ -82,18 +83,30 @@ impl MemoryLog {
         self.plan.log_fault()
     }
 
+    // Appends an equal window, for which there is room.
+    fn add(&mut self, alloc: Global, window: &Window) -> Result<(), NoMemory>
+        requires chained { window.now.prev ≡ end_from self.old.floor self.old.windows }
+        requires full { 0 < length window.now.changes }
+        requires free { (log_of self.old).full (span_size window.now) ≡ false }
+        ensures ok { OnOk result (self.new ≡ with_window window.now self.old) }
+        ensures err { OnErr result (self.new ≡ self.old) }
+    {
+        let size = window.size();
+        self.windows.push_back(window.copy(alloc)?)?;
+        self.size += size;
+        Ok(())
+    }
+
     // Appends an equal window, where there is room for it.
     fn push(&mut self, alloc: Global, window: &Window) -> Result<(), LogFault>
         requires chained { window.now.prev ≡ end_from self.old.floor self.old.windows }
         requires full { 0 < length window.now.changes }
         ensures { Pushes window.now self.old self.new result }
     {
-        let size = window.size();
-        if self.is_full(size) {
+        if self.is_full(window.size()) {
             return Err(LogFault::Full);
         }
-        self.windows.push_back(window.copy(alloc)?)?;
-        self.size += size;
+        self.add(alloc, window)?;
         Ok(())
     }
 

@@ -1,4 +1,6 @@
+mod logs;
 mod quiet;
+mod quiet_log;
 
 use super::*;
 use crate::entries::{self, Entries};
