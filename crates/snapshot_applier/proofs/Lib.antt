@@ -1,0 +1,4 @@
+pub mod BootTexts
+pub mod Advancing
+pub mod AppliedRows
+pub mod Stands

@@ -1,0 +1,4 @@
+pub mod BootMark
+pub mod Members
+pub mod Apply
+pub mod Standing
