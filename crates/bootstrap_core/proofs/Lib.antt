@@ -1,0 +1,6 @@
+pub mod StretchEnds
+pub mod NewestRead
+pub mod StandingMoves
+pub mod BetweenEnds
+pub mod SettingBases
+pub mod TrimSteps
