@@ -2,3 +2,9 @@ pub mod ReplyWindows
 pub mod Appending
 pub mod Opened
 pub mod LogStands
+pub mod StretchEnds
+pub mod NewestRead
+pub mod StandingMoves
+pub mod BetweenEnds
+pub mod SettingBases
+pub mod TrimSteps

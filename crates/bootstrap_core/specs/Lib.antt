@@ -2,3 +2,4 @@ pub mod Boot
 pub mod Opening
 pub mod Logging
 pub mod Moving
+pub mod Trimming

@@ -1,9 +1,8 @@
 -- What the applier and a trim make of a bootstrap.
-use Rattle.std.specs.Prelude.{◌≡◌, ℕ, ◌≤◌, min, max, ◌==◌, if◌then◌else◌, true, false, List, [], Option, Some, None, IfSome, Result, Ok, Err}
+use Rattle.std.specs.Prelude.{◌≡◌, ℕ, ◌<◌, ◌≤◌, min, max, true, false, [], None, is_some, IfSome, Result, Ok, Err, ◌⊎◌}
 use Rattle.bus_types.specs.Causes.{Rose}
-use Rattle.bus_types.specs.Window.{Span}
 use Rattle.bus_types.specs.Timeline.{end_from, windows_between}
-use Rattle.bus_stores.specs.Keeper.{KeeperState, Move, SameStore, Stopped, Meets, move_of}
+use Rattle.bus_stores.specs.Keeper.{Move, SameStore, Stopped, Meets, move_of}
 use Rattle.bus_stores.specs.Log.{LogState, SameLog, Dropped}
 use Rattle.bus_stores.specs.declared.boot_fault.BootFault.{BootFault}
 use Rattle.bus_stores.specs.declared.boot_fault.BootFault.TheVariants.{LogFailed, StoreFailed, Halted, NoMemory}
@@ -11,6 +10,16 @@ use Rattle.snapshot_applier.specs.declared.boot.BootMark.{BootMark}
 use Rattle.snapshot_applier.specs.BootMark.{boot_mark_text}
 use Rattle.snapshot_applier.specs.Apply.{Applied, Unapplied}
 use Rattle.bootstrap_core.specs.Boot.{BootState}
+
+-- a log that tells its windows
+abbrev pub TellsWindows : LogState → Type 0
+TellsWindows log = is_some log.windows ≡ true
+
+-- the boot mark, and but for their counts log and keeper, are as before
+pub record SameParts (old new : BootState) : Type 0 where
+  pub keeper : SameStore old.keeper new.keeper
+  pub log : SameLog old.log new.log
+  pub mark : new.mark ≡ old.mark
 
 -- ---- apply
 
@@ -21,13 +30,19 @@ pub record AppliesNext (applied count : ℕ) (old new : BootState) : Type 0 wher
   pub runs : new.halted ≡ false
   pub number : applied ≡ new.mark.applied
 
+-- the commit of the next windows failed
+pub record AppliesNone (count : ℕ) (old new : BootState) : Type 0 where
+  pub keeper : Unapplied old.mark count old.log old.keeper new.keeper
+  pub log : SameLog old.log new.log
+  pub mark : new.mark ≡ old.mark
+
 -- a call of `apply`, by its answer
 abbrev pub AppliesBoot : Result ℕ BootFault → ℕ → BootState → BootState → Type 0
 AppliesBoot (Ok applied) count old new = AppliesNext applied count old new
-AppliesBoot (Err LogFailed) count old new = (new.halted ≡ true) × Rose old.log.faults new.log.faults × SameStore old.keeper new.keeper × SameLog old.log new.log × (new.mark ≡ old.mark)
-AppliesBoot (Err StoreFailed) count old new = (new.halted ≡ true) × Unapplied old.mark count old.log old.keeper new.keeper × SameLog old.log new.log × (new.mark ≡ old.mark)
+AppliesBoot (Err LogFailed) count old new = (new.halted ≡ true) × Rose old.log.faults new.log.faults × SameParts old new
+AppliesBoot (Err StoreFailed) count old new = (new.halted ≡ true) × AppliesNone count old new
 AppliesBoot (Err Halted) count old new = new ≡ old
-AppliesBoot (Err NoMemory) count old new = (new.halted ≡ old.halted) × SameStore old.keeper new.keeper × SameLog old.log new.log × (new.mark ≡ old.mark)
+AppliesBoot (Err NoMemory) count old new = (new.halted ≡ old.halted) × SameParts old new
 
 -- ---- trim
 
@@ -48,25 +63,36 @@ pub record FindsBase (scn base : ℕ) (old : BootState) : Type 0 where
   pub low : old.mark.base ≤ base
   pub high : base ≤ max old.mark.base (min scn old.mark.applied)
 
--- it was committed and the log dropped windows up to it; or it is the old one, and nothing was done
-pub record TrimsTo (base : ℕ) (old new : BootState) : Type 0 where
+-- it is a later one, and was committed
+pub record SetsLater (base : ℕ) (old new : BootState) : Type 0 where
+  pub later : old.mark.base < base
+  pub keeper : Meets None (base_move (based old.mark base)) old.keeper new.keeper
   pub mark : new.mark ≡ based old.mark base
-  pub runs : new.halted ≡ false
-  pub keeper : if base == old.mark.base then SameStore old.keeper new.keeper else Meets None (base_move (based old.mark base)) old.keeper new.keeper
-  pub log : if base == old.mark.base then SameLog old.log new.log else ((log : LogState) × SameLog old.log log × Dropped base log new.log)
 
--- it was committed, and then the log failed to drop; or the log failed before
-pub record TrimBreaks (scn : ℕ) (old new : BootState) : Type 0 where
-  pub base : ℕ
-  pub found : FindsBase scn base old
-  pub keeper : if base == old.mark.base then SameStore old.keeper new.keeper else Meets None (base_move (based old.mark base)) old.keeper new.keeper
-  pub mark : new.mark ≡ based old.mark base
+-- and then the log dropped windows up to it
+pub record DropsLater (base : ℕ) (old new : BootState) : Type 0 where
+  pub set : SetsLater base old new
+  pub read : LogState
+  pub same : SameLog old.log read
+  pub dropped : Dropped base read new.log
+  pub room : new.log.room ≡ old.log.room
+
+-- it is the old one, and nothing was done
+pub record Keeps (base : ℕ) (old new : BootState) : Type 0 where
+  pub is : base ≡ old.mark.base
+  pub same : SameParts old new
+
+-- it is a later one, and the commit failed before the log dropped windows
+pub record SetsNone (base : ℕ) (old new : BootState) : Type 0 where
+  pub later : old.mark.base < base
+  pub keeper : Stopped (base_move (based old.mark base)) old.keeper new.keeper
+  pub log : SameLog old.log new.log
+  pub mark : new.mark ≡ old.mark
 
 -- a call of `trim`, by its answer
 abbrev pub Trims : Result ℕ BootFault → ℕ → BootState → BootState → Type 0
-Trims (Ok base) scn old new = FindsBase scn base old × TrimsTo base old new
-Trims (Err LogFailed) scn old new = (new.halted ≡ true) × Rose old.log.faults new.log.faults × ((SameStore old.keeper new.keeper × (new.mark ≡ old.mark)) ⊎ TrimBreaks scn old new)
-Trims (Err StoreFailed) scn old new = (new.halted ≡ true) × Rose old.keeper.faults new.keeper.faults × (new.mark ≡ old.mark) × ((base : ℕ) × FindsBase scn base old × Stopped (base_move (based old.mark base)) old.keeper new.keeper)
+Trims (Ok base) scn old new = (new.halted ≡ false) × FindsBase scn base old × (Keeps base old new ⊎ DropsLater base old new)
+Trims (Err LogFailed) scn old new = (new.halted ≡ true) × Rose old.log.faults new.log.faults × (SameParts old new ⊎ ((base : ℕ) × FindsBase scn base old × SetsLater base old new))
+Trims (Err StoreFailed) scn old new = (new.halted ≡ true) × Rose old.keeper.faults new.keeper.faults × ((base : ℕ) × FindsBase scn base old × SetsNone base old new)
 Trims (Err Halted) scn old new = new ≡ old
-Trims (Err NoMemory) scn old new = (new.halted ≡ old.halted) × (SameStore old.keeper new.keeper × SameLog old.log new.log × (new.mark ≡ old.mark)
-    ⊎ ((base : ℕ) × FindsBase scn base old × Meets None (base_move (based old.mark base)) old.keeper new.keeper × (new.mark ≡ based old.mark base) × SameLog old.log new.log))
+Trims (Err NoMemory) scn old new = (new.halted ≡ old.halted) × (SameParts old new ⊎ ((base : ℕ) × FindsBase scn base old × SetsLater base old new × SameLog old.log new.log))

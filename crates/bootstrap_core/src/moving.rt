@@ -1,9 +1,13 @@
-ghost use Rattle.std.specs.Prelude.{◌≡◌, ◌≤◌, ◌↔◌, true, false, List, IsErrOf};
+ghost use Rattle.std.specs.Prelude.{◌≡◌, ◌<◌, ◌≤◌, ◌↔◌, true, false, List, IfOk, IsErrOf};
 ghost use Rattle.bus_types.specs.Window.{Span};
 ghost use Rattle.bus_types.specs.Timeline.{IsTimeline};
+ghost use Rattle.bus_stores.specs.Keeper.{Commits};
+ghost use Rattle.bus_stores.specs.Log.{IsLog, DropsWindows};
 ghost use Rattle.snapshot_applier.specs.declared.boot.BootMark.{BootMark};
+ghost use Rattle.snapshot_applier.specs.BootMark.{IsBootMark};
 ghost use Rattle.bootstrap_core.specs.Boot.{told, Stands, StandsForBoot};
-ghost use Rattle.bootstrap_core.specs.Moving.{AppliesBoot, Trims};
+ghost use Rattle.bootstrap_core.specs.Moving.{AppliesBoot, TellsWindows, Trims, base_move};
+ghost use Rattle.bootstrap_core.specs.Trimming.{halted_at, of_log, of_store, ReadsUpto, ReadsNewest, SetsBase};
 
 use crate::boot::Boot;
 use bus_stores::{BootFault, Keeper, LogFault, StoreFault, WindowLog};
@@ -22,15 +26,20 @@ impl<G: WindowLog, K: Keeper> Boot<G, K> {
         requires few { n ≤ 32 }
         ensures halted { IsErrOf result BootFault.Halted ↔ (self.old.halted ≡ true) }
         ensures applies { AppliesBoot result n (told G.state K.state self.old) (told G.state K.state self.new) }
+        ensures log_faults { (G.state self.old.log).faults ≤ (G.state self.new.log).faults }
+        ensures faults { (K.state self.old.keeper).faults ≤ (K.state self.new.keeper).faults }
 
-        // One that stands for a timeline still does; after a fault of the keeper, at the numbers before the commit or after.
-        ensures stands { (ws : List Span) → IsTimeline ws → Stands ws (told G.state K.state self.old) → self.new.halted ≡ false → Stands ws (told G.state K.state self.new) }
-        ensures reopens { (ws : List Span) → IsTimeline ws → Stands ws (told G.state K.state self.old) → self.old.halted ≡ false →
+        // One that stands for a timeline, whose log tells its windows, still does; after a fault of the keeper, at the numbers
+        // before the commit or after.
+        ensures stands { (ws : List Span) → IsTimeline ws → Stands ws (told G.state K.state self.old) → TellsWindows (G.state self.old.log) → self.new.halted ≡ false →
+            Stands ws (told G.state K.state self.new) }
+        ensures reopens { (ws : List Span) → IsTimeline ws → Stands ws (told G.state K.state self.old) → TellsWindows (G.state self.old.log) → self.old.halted ≡ false →
             (mark : BootMark) × StandsForBoot ws (G.state self.new.log) (K.state self.new.keeper) mark }
     {
         if self.halted {
             return Err(BootFault::Halted);
         }
+        let _within = self.log.high();
         match snapshot_applier::apply(alloc, &mut self.log, &mut self.keeper, &self.mark, n) {
             Ok(mark) => {
                 self.mark = mark;
@@ -41,9 +50,13 @@ impl<G: WindowLog, K: Keeper> Boot<G, K> {
     }
 
     // Halts at a fault of log or keeper.
-    fn halt_at(&mut self, fault: BootFault) -> BootFault {
-        if fault != BootFault::NoMemory {
-            self.halted = true;
+    fn halt_at(&mut self, fault: BootFault) -> BootFault
+        ensures fault { result ≡ fault }
+        ensures halted { self.new ≡ halted_at fault self.old }
+    {
+        match fault {
+            BootFault::NoMemory => {}
+            BootFault::LogFailed | BootFault::StoreFailed | BootFault::Halted => self.halted = true,
         }
         fault
     }
@@ -58,66 +71,126 @@ impl<G: WindowLog, K: Keeper> Boot<G, K> {
     pub fn trim(&mut self, alloc: Global, scn: u64) -> Result<u64, BootFault>
         ensures halted { IsErrOf result BootFault.Halted ↔ (self.old.halted ≡ true) }
         ensures trims { Trims result scn (told G.state K.state self.old) (told G.state K.state self.new) }
-        ensures stands { (ws : List Span) → IsTimeline ws → Stands ws (told G.state K.state self.old) → self.new.halted ≡ false → Stands ws (told G.state K.state self.new) }
-        ensures reopens { (ws : List Span) → IsTimeline ws → Stands ws (told G.state K.state self.old) → self.old.halted ≡ false → IsErrOf result BootFault.StoreFailed →
-            (mark : BootMark) × StandsForBoot ws (G.state self.new.log) (K.state self.new.keeper) mark }
+        ensures log_faults { (G.state self.old.log).faults ≤ (G.state self.new.log).faults }
+        ensures faults { (K.state self.old.keeper).faults ≤ (K.state self.new.keeper).faults }
+        ensures stands { (ws : List Span) → IsTimeline ws → Stands ws (told G.state K.state self.old) → TellsWindows (G.state self.old.log) → self.new.halted ≡ false →
+            Stands ws (told G.state K.state self.new) }
+        ensures reopens { (ws : List Span) → IsTimeline ws → Stands ws (told G.state K.state self.old) → TellsWindows (G.state self.old.log) → self.old.halted ≡ false →
+            IsErrOf result BootFault.StoreFailed → (mark : BootMark) × StandsForBoot ws (G.state self.new.log) (K.state self.new.keeper) mark }
     {
         if self.halted {
             return Err(BootFault::Halted);
         }
-        let base = match newest(
-            alloc,
-            &mut self.log,
-            self.mark.base,
-            scn.min(self.mark.applied),
-        ) {
-            Ok(base) => base,
-            Err(fault) => return Err(self.halt_at(fault)),
-        };
-        if base == self.mark.base {
-            return Ok(base);
-        }
-        match self.set_base(alloc, base) {
-            Ok(()) => Ok(base),
-            Err(fault) => Err(self.halt_at(fault)),
+        let upto = scn.min(self.mark.applied);
+        match newest(alloc, &mut self.log, self.mark.base, upto) {
+            Ok(base) if base > self.mark.base => self.set_base(alloc, base),
+            Ok(base) => Ok(base),
+            Err(fault) => Err(self.halt_at(boot_fault(fault))),
         }
     }
 
-    // Commits a new base, and then drops windows up to it.
-    fn set_base(&mut self, alloc: Global, base: u64) -> Result<(), BootFault> {
+    // Commits a later base, and then drops windows up to it.
+    fn set_base(&mut self, alloc: Global, base: u64) -> Result<u64, BootFault>
+        requires runs { self.old.halted ≡ false }
+        requires later { self.old.mark.base < base }
+        requires within { base ≤ self.old.mark.applied }
+        ensures sets { SetsBase result base (told G.state K.state self.old) (told G.state K.state self.new) }
+        ensures log { IfOk result (λ done. IsLog (G.state self.new.log)) }
+        ensures log_faults { (G.state self.old.log).faults ≤ (G.state self.new.log).faults }
+        ensures faults { (K.state self.old.keeper).faults ≤ (K.state self.new.keeper).faults }
+    {
         let mark = BootMark {
             base,
             applied: self.mark.applied,
         };
-        let text = boot_text(alloc, &mark)?;
-        match self.keeper.commit(alloc, false, &[], &text) {
+        match set_mark(alloc, &mut self.keeper, &mark) {
             Ok(()) => {}
-            Err(StoreFault::Failed) => return Err(BootFault::StoreFailed),
-            Err(StoreFault::NoMemory) => return Err(BootFault::NoMemory),
+            Err(fault) => return Err(self.halt_at(store_fault(fault))),
         }
         self.mark = mark;
-        match self.log.drop_through(alloc, base) {
-            Ok(()) => Ok(()),
+        match drop_windows(alloc, &mut self.log, base) {
+            Ok(()) => Ok(base),
             Err(LogFault::NoMemory) => Err(BootFault::NoMemory),
-            Err(LogFault::Failed | LogFault::Full) => Err(BootFault::LogFailed),
+            Err(LogFault::Failed | LogFault::Full) => {
+                self.halted = true;
+                Err(BootFault::LogFailed)
+            }
         }
     }
 }
 
+// Commits a boot mark alone.
+fn set_mark<K: Keeper>(alloc: Global, keeper: &mut K, mark: &BootMark) -> Result<(), StoreFault>
+    requires { IsBootMark mark.now }
+    ensures { Commits (base_move mark.now) (K.state keeper.old) (K.state keeper.new) result }
+{
+    let text = boot_text(alloc, mark)?;
+    keeper.commit(alloc, false, &[], &text)
+}
+
+// Drops windows up to an SCN.
+fn drop_windows<G: WindowLog>(alloc: Global, log: &mut G, scn: u64) -> Result<(), LogFault>
+    ensures drops { DropsWindows scn (G.state log.old) (G.state log.new) result }
+    ensures log { IsLog (G.state log.new) }
+{
+    let dropped = log.drop_through(alloc, scn);
+    let _begins = log.floor();
+    dropped
+}
+
 // The SCN of the newest window behind one SCN that isn't above another, or the first SCN.
-fn newest<G: WindowLog>(
+fn newest<G: WindowLog>(alloc: Global, log: &mut G, base: u64, upto: u64) -> Result<u64, LogFault>
+    requires { (G.state log.old).floor ≤ base }
+    ensures reads { ReadsNewest base upto (G.state log.old) (G.state log.new) result }
+    ensures log { IsLog (G.state log.old) }
+{
+    let _rising = log.high();
+    let mut found = base;
+    'reads: loop {
+        match next_upto(alloc, log, found, upto)? {
+            Some(scn) => found = scn,
+            None => return Ok(found),
+        }
+    }
+}
+
+// The SCN of the oldest window behind one SCN, where it isn't above another.
+fn next_upto<G: WindowLog>(
     alloc: Global,
     log: &mut G,
-    base: u64,
+    scn: u64,
     upto: u64,
-) -> Result<u64, BootFault> {
-    let mut found = base;
-    loop {
-        match log.next(alloc, found) {
-            Ok(Some(window)) if window.scn() <= upto => found = window.scn(),
-            Ok(_) => return Ok(found),
-            Err(LogFault::NoMemory) => return Err(BootFault::NoMemory),
-            Err(LogFault::Failed | LogFault::Full) => return Err(BootFault::LogFailed),
-        }
+) -> Result<Option<u64>, LogFault>
+    requires { (G.state log.old).floor ≤ scn }
+    ensures { ReadsUpto scn upto (G.state log.old) (G.state log.new) result }
+{
+    let Some(window) = log.next(alloc, scn)? else {
+        return Ok(None);
+    };
+    let next = window.scn();
+    if next <= upto {
+        Ok(Some(next))
+    } else {
+        Ok(None)
+    }
+}
+
+// What a log met that appends nothing, so that it never wants room.
+fn boot_fault(fault: LogFault) -> BootFault
+    ensures { result ≡ of_log fault }
+{
+    match fault {
+        LogFault::NoMemory => BootFault::NoMemory,
+        LogFault::Failed | LogFault::Full => BootFault::LogFailed,
+    }
+}
+
+// What a keeper met.
+fn store_fault(fault: StoreFault) -> BootFault
+    ensures { result ≡ of_store fault }
+{
+    match fault {
+        StoreFault::NoMemory => BootFault::NoMemory,
+        StoreFault::Failed => BootFault::StoreFailed,
     }
 }

@@ -1,0 +1,33 @@
+use Rattle.std.proofs.Common.{Ok, rules, subst}
+use Rattle.bootstrap_core.specs.Boot.{BootState, told}
+use Rattle.bootstrap_core.specs.Trimming.{ReadsNewest}
+use Rattle.bootstrap_core.proofs.TrimSteps.{TrimMeets, trim_meets}
+use Rattle.bootstrap_core.proofs.boot.Boot.trim.Goals as goal
+
+pub returns-in-Ok : goal.returns-in-Ok
+returns-in-Ok g c =
+    let old : BootState = record {
+      log = g.G.WindowLog.state c.self.inside.log;
+      keeper = g.K.Keeper.state c.self.inside.keeper;
+      mark = c.self.inside.mark;
+      halted = c.self.inside.halted;
+    } in
+    let read = g.G.WindowLog.state c.newest.new.log in
+    let new = told g.G.WindowLog.state g.K.Keeper.state c.set_base.new.self in
+    let reads = subst (λ upto. ReadsNewest old.mark.base upto old.log read (Ok c.in-Ok.base)) c.min-upto.ensures c.in-Ok.ensures.reads in
+    let met = subst (λ b. TrimMeets c.args.scn c.set_base.result (told g.G.WindowLog.state g.K.Keeper.state b) new) c.self.view_is
+    (trim_meets c.args.scn c.in-Ok.base c.set_base.result old read new (record {
+      log = c.newest.ensures.log;
+      runs = c.if-self.false;
+      reads = reads;
+      sets = c.set_base.ensures.sets;
+      after = c.set_base.ensures.log;
+    })) in
+    record {
+      halted = search rules;
+      trims = met.trims;
+      log_faults = search rules;
+      faults = search rules;
+      stands = met.stands;
+      reopens = met.reopens;
+    }
