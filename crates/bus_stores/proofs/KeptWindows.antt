@@ -122,15 +122,16 @@ pub first_at : (scn floor : ℕ) (ws : List Span) (i : ℕ) → Rises floor ws �
 first_at scn floor ws i r p = slice_get-drop ws i ∙ ap (λ (l : List Span). slice_get l 0) p.behind ∙ after_first floor scn ws r
 
 -- it is behind the SCN, and there is none only where no window is
-pub first_found : (prev scn : ℕ) (ws : List Span) → Rises prev ws → prev ≤ scn → IsFound scn (end_from prev ws) (first_after scn ws)
-first_found prev scn [] r low = record { window = tt; none = low }
-first_found prev scn (w ∷ ws) r low =
+pub first_found : (prev scn : ℕ) (ws : List Span) → IsTimelineFrom prev ws → prev ≤ scn → IsFound scn (end_from prev ws) (first_after scn ws)
+first_found prev scn [] t low = record { window = tt; none = low }
+first_found prev scn (w ∷ ws) t low =
     let high = end_from w.scn ws in
+    let r = timeline_rises prev (w ∷ ws) t in
     elim (cases_lt scn w.scn) [
       | inl l ↦
-          let found : IsFound scn high (Some w) = record { window = (l, rises_end w.scn ws r.1); none = tt } in
+          let found : IsFound scn high (Some w) = record { window = (omega (arith, t.0.chained), l, rises_end w.scn ws r.1); none = tt } in
           subst (IsFound scn high) (sym (cond-true (nat_lt scn w.scn) (Some w) (first_after scn ws) (lt-ltb scn w.scn l))) found
-      | inr l ↦ subst (IsFound scn high) (sym (cond-false (nat_lt scn w.scn) (Some w) (first_after scn ws) (le-ltb scn w.scn l))) (first_found w.scn scn ws r.1 l)
+      | inr l ↦ subst (IsFound scn high) (sym (cond-false (nat_lt scn w.scn) (Some w) (first_after scn ws) (le-ltb scn w.scn l))) (first_found w.scn scn ws t.1 l)
     ]
 
 -- the windows behind an SCN are the oldest of them and those behind it

@@ -88,9 +88,9 @@ pub record AppendsWindow (w : Span) (old new : LogState) (result : Result Unit L
 abbrev pub first_after : ℕ → List Span → Option Span
 first_after scn ws = find (λ w. nat_lt scn w.scn) ws
 
--- what is found behind an SCN up to the newest window: a window, or nothing where there is none
+-- what is found behind an SCN up to the newest window: a window with none between, or nothing where there is none
 pub record IsFound (scn high : ℕ) (found : Option Span) : Type 0 where
-  pub window : IfSome found (λ w. (scn < w.scn) × (w.scn ≤ high))
+  pub window : IfSome found (λ w. (w.prev ≤ scn) × (scn < w.scn) × (w.scn ≤ high))
   pub none : IfNone found (high ≤ scn)
 
 -- where a call answers `Full`

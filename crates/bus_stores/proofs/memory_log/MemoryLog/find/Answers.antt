@@ -18,6 +18,5 @@ returns-clause-first c =
 pub returns-clause-found : goal.returns-clause-found
 returns-clause-found c =
     let now = c.args.self.now in
-    let rises = timeline_rises now.floor now.windows c.place_after.ensures.chained in
     let high = end_from now.floor now.windows in
-    IfOk-weaker c.copy_at.result (λ found. found ≡ first_after c.args.scn now.windows) (IsFound c.args.scn high) (λ found e. subst (IsFound c.args.scn high) (sym e) (first_found now.floor c.args.scn now.windows rises c.requires)) (returns-clause-first c)
+    IfOk-weaker c.copy_at.result (λ found. found ≡ first_after c.args.scn now.windows) (IsFound c.args.scn high) (λ found e. subst (IsFound c.args.scn high) (sym e) (first_found now.floor c.args.scn now.windows c.place_after.ensures.chained c.requires)) (returns-clause-first c)
