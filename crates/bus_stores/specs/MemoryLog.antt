@@ -45,7 +45,7 @@ pub record AreKept (floor : ℕ) (windows : List Span) (size limit : ℕ) : Type
 abbrev pub log_stop : MemoryWindows → Option Stop
 log_stop s = listed_stop s.fails s.calls
 
--- a call fails exactly where it is listed; one that is to fail after it counts may run out of memory instead
+-- a call fails exactly where it is listed
 abbrev pub LogFailsAt : {X : Type 0} → Option Stop → Result X LogFault → Type 0
 LogFailsAt None (Ok x) = Unit {0}
 LogFailsAt None (Err Failed) = ⊥
@@ -54,7 +54,7 @@ LogFailsAt None (Err NoMemory) = Unit {0}
 LogFailsAt (Some stop) (Ok x) = ⊥
 LogFailsAt (Some stop) (Err Failed) = Unit {0}
 LogFailsAt (Some stop) (Err Full) = ⊥
-LogFailsAt (Some stop) (Err NoMemory) = Unit {0}
+LogFailsAt (Some stop) (Err NoMemory) = ⊥
 
 -- a call was counted, and the calls that are to fail are the same
 pub record CountsLogCall (old new : MemoryWindows) : Type 0 where

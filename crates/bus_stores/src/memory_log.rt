@@ -226,6 +226,7 @@ impl WindowLog for MemoryLog {
 
     fn drop_through(&mut self, _alloc: Global, scn: u64) -> Result<(), LogFault>
         ensures drops { DropsWindows scn (log_of self.old) (log_of self.new) result }
+        ensures dropped { OnOk result (self.new.windows ≡ windows_between scn (log_of self.old).high self.old.windows) }
         ensures exact { LogFailsAt (log_stop self.old) result }
         ensures numbered { CountsLogCall self.old self.new }
     {
