@@ -1,5 +1,5 @@
 -- What the applier does to a log and a keeper.
-use Rattle.std.specs.Prelude.{◌≡◌, ℕ, false, List, [], ◌∷◌, take, flat_map, Option, Some, None, IfSome, Result, Ok, Err}
+use Rattle.std.specs.Prelude.{◌≡◌, ℕ, ◌≤◌, false, List, [], ◌∷◌, take, flat_map, Option, Some, None, IfSome, Result, Ok, Err}
 use Rattle.bus_types.specs.Causes.{Rose}
 use Rattle.bus_types.specs.Window.{Span}
 use Rattle.bus_types.specs.Timeline.{end_from, windows_between}
@@ -11,7 +11,7 @@ use Rattle.bus_stores.specs.Following.{AreFound}
 use Rattle.bus_stores.specs.declared.boot_fault.BootFault.{BootFault}
 use Rattle.bus_stores.specs.declared.boot_fault.BootFault.TheVariants.{LogFailed, StoreFailed, Halted, NoMemory}
 use Rattle.snapshot_applier.specs.declared.boot.BootMark.{BootMark}
-use Rattle.snapshot_applier.specs.BootMark.{boot_mark_text}
+use Rattle.snapshot_applier.specs.BootMark.{IsBootMark, boot_mark_text}
 
 -- the next windows behind an SCN that a log gives, at most so many, and fewer only where none is left
 pub record AreNext (scn most : ℕ) (log : LogState) (ws : List Span) : Type 0 where
@@ -49,3 +49,10 @@ Applies (Err LogFailed) m most log log' old new = Rose log.faults log'.faults ×
 Applies (Err StoreFailed) m most log log' old new = Unapplied m most log old new
 Applies (Err Halted) m most log log' old new = ⊥
 Applies (Err NoMemory) m most log log' old new = SameStore old new
+
+-- the boot mark that a call answers: of the same base, not behind the one given, and at or before the log's newest window
+pub record Advances (m next : BootMark) (high : ℕ) : Type 0 where
+  pub lawful : IsBootMark next
+  pub base : next.base ≡ m.base
+  pub later : m.applied ≤ next.applied
+  pub upto : next.applied ≤ high

@@ -1,13 +1,13 @@
-ghost use Rattle.std.specs.Prelude.{◌≡◌, ◌++◌, ◌≤◌, ◌<◌, ℕ, List, IfOk, IfSome, flat_map, false, Some};
+ghost use Rattle.std.specs.Prelude.{◌≡◌, ◌++◌, ◌≤◌, ◌<◌, ℕ, List, IfOk, IfSome, IsErrOf, flat_map, false, Some};
 ghost use Rattle.bus_types.specs.declared.limits.TheConstants.{MAX_SCN};
 ghost use Rattle.bus_types.specs.Window.{Span};
 ghost use Rattle.bus_types.specs.Timeline.{IsTimeline};
-ghost use Rattle.bus_stores.specs.Keeper.{move_of};
+ghost use Rattle.bus_stores.specs.Keeper.{BothTold, move_of};
 ghost use Rattle.bus_stores.specs.Log.{SameLog};
 ghost use Rattle.bus_stores.specs.Following.{RiseBetween};
 ghost use Rattle.bus_stores.specs.Taking.{Takes};
 ghost use Rattle.snapshot_applier.specs.BootMark.{IsBootMark, boot_mark_text};
-ghost use Rattle.snapshot_applier.specs.Apply.{Applies, applied_after, commit_of};
+ghost use Rattle.snapshot_applier.specs.Apply.{Applies, Advances, applied_after, commit_of};
 ghost use Rattle.snapshot_applier.specs.Standing.{IsLogOf, StandsAt, next_mark, StandsAfter};
 
 use crate::boot::BootMark;
@@ -36,6 +36,9 @@ pub fn apply<G: WindowLog, K: Keeper>(
     ensures applies { Applies result mark.now n (G.state log.old) (G.state log.new) (K.state keeper.old) (K.state keeper.new) }
     ensures table { (ws : List Span) → IsTimeline ws → IsLogOf ws (G.state log.old) → IfSome (K.state keeper.old).content (StandsAt ws mark.now)
         → StandsAfter ws mark.now (next_mark ws mark.now n (G.state log.old).high) result (K.state keeper.new) }
+    ensures next { IfOk result (λ next. Advances mark.now next (G.state log.old).high) }
+    ensures sound { IsErrOf result BootFault.LogFailed → IfSome (G.state log.old).room (λ room. room.sound ≡ false) }
+    ensures calls { BothTold (λ a b. a ≤ b) (K.state keeper.old).calls (K.state keeper.new).calls }
     ensures log { SameLog (G.state log.old) (G.state log.new) }
     ensures log_faults { (G.state log.old).faults ≤ (G.state log.new).faults }
     ensures faults { (K.state keeper.old).faults ≤ (K.state keeper.new).faults }
@@ -63,6 +66,7 @@ fn apply_windows<K: Keeper>(
     requires rising { (high : ℕ) × RiseBetween mark.now.applied high windows.now }
     ensures takes { Takes (commit_of mark.now windows.now) (K.state keeper.old) (K.state keeper.new) result }
     ensures next { IfOk result (λ next. next ≡ applied_after mark.now windows.now) }
+    ensures advances { IfOk result (λ next. (high : ℕ) → mark.now.applied ≤ high → RiseBetween mark.now.applied high windows.now → Advances mark.now next high) }
 {
     let next = mark_after(mark, windows);
     if !windows.is_empty() {
@@ -77,6 +81,7 @@ fn mark_after(mark: &BootMark, windows: &[Window]) -> BootMark
     requires rising { (high : ℕ) × RiseBetween mark.now.applied high windows.now }
     ensures after { result ≡ applied_after mark.now windows.now }
     ensures lawful { IsBootMark result }
+    ensures advances { (high : ℕ) → mark.now.applied ≤ high → RiseBetween mark.now.applied high windows.now → Advances mark.now result high }
 {
     match windows.last() {
         None => *mark,
