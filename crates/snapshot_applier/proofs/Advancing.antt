@@ -26,7 +26,7 @@ rise_end scn high (w ∷ ws) r = omega (arith, r.1, rise_end w.scn high ws r.3)
 -- and at or before the upper one
 rise_upto : (scn high : ℕ) (ws : List Span) → scn ≤ high → RiseBetween scn high ws → end_from scn ws ≤ high
 rise_upto scn high [] h r = h
-rise_upto scn high (w ∷ ws) h r = rise_upto w.scn high ws r.1 r.2
+rise_upto scn high (w ∷ ws) h r = rise_upto w.scn high ws r.2 r.3
 
 -- the boot mark at the last window
 pub after_last : (m : BootMark) (at : ℕ) (ws : List Span) (w : Span) → at ≡ w.scn → Some w ≡ slice_get ws (length ws - 1) → record m { applied = at } ≡ applied_after m ws
