@@ -1,18 +1,20 @@
 -- Windows that are appended to the log of a bootstrap, one after the other.
-use Rattle.std.proofs.Common.{◌≡◌, ℕ, zero, suc, ◌+◌, ◌<◌, ◌≤◌, inl, inr, List, [], ◌∷◌, ◌++◌, length, get_or, take, Option, Some, None, Result, Ok, Err, refl, sym, ap, subst, ◌∙◌, append_assoc, append-nil, arith}
-use Rattle.std.specs.Prelude.{option_map, slice_get, IfOk}
-use Rattle.std.proofs.lemmas.List.{take_more, take_all, take-take, length-take}
+use Rattle.std.proofs.Common.{◌≡◌, ℕ, zero, suc, ◌+◌, ◌<◌, ◌≤◌, inl, inr, Bool, false, List, [], ◌∷◌, ◌++◌, length, get_or, take, Option, Some, None, Result, Ok, Err, refl, sym, ap, subst, ◌∙◌, append_assoc, append-nil, arith}
+use Rattle.std.specs.Prelude.{option_map, slice_get, IfSome, IfOk}
+use Rattle.std.proofs.lemmas.Bool.{ltb-false}
+use Rattle.std.proofs.lemmas.List.{take_more, take_all, take-take, length-take, length-append}
 use Rattle.std.proofs.lemmas.Option.{slice_get-get_or}
-use Rattle.bus_types.specs.Window.{Span}
-use Rattle.bus_types.specs.Timeline.{Follows, IsTimelineFrom, end_from, end_of}
+use Rattle.bus_types.specs.Window.{Span, span_size}
+use Rattle.bus_types.specs.Timeline.{Follows, IsTimelineFrom, end_from, end_of, total_size}
 use Rattle.bus_types.proofs.Stretches.{end_from-append, follows_at}
 use Rattle.event_codec.specs.declared.answer.Answer.{Answer}
 use Rattle.event_codec.specs.declared.reply.Shape.TheVariants as shapes
 use Rattle.bus_wire.specs.Lawful.{IsLawful}
+use Rattle.bus_stores.specs.Log.{LogState, LogRoom, IsLog, IsRoomy, AppendsWindow}
 use Rattle.bootstrap_core.specs.declared.fault.TakeLog.{TakeLog}
 use Rattle.bootstrap_core.specs.declared.fault.TakeLog.TheVariants.{BadReply, Gap, Full, LogFailed, Halted, NoMemory}
 use Rattle.bootstrap_core.specs.Boot.{BootState}
-use Rattle.bootstrap_core.specs.Logging.{log_ask, IsAnswered, AreWindowsBehind, IsChained, Logged, LogsWindow, LogsEach, TakesLog}
+use Rattle.bootstrap_core.specs.Logging.{log_ask, IsAnswered, AreWindowsBehind, IsChained, FitsRoom, Logged, LogsWindow, LogsEach, TakesLog}
 
 -- ---- what was appended
 
@@ -21,11 +23,20 @@ kept None = refl
 kept (Some held) = ap Some (sym (append-nil held))
 
 pub logs_none : (s : BootState) → Logged [] s s
-logs_none s = record { floor = refl; high = refl; windows = kept s.log.windows; room = refl; keeper = refl; mark = refl; halted = refl }
+logs_none s = record { floor = refl; high = refl; windows = kept s.log.windows; room = refl; fits = λ h. absurd (omega (arith, h)); keeper = refl; mark = refl; halted = refl }
 
 kept_twice : (xs ys : List Span) (told : Option (List Span)) → option_map (λ held. held ++ ys) (option_map (λ held. held ++ xs) told) ≡ option_map (λ held. held ++ (xs ++ ys)) told
 kept_twice xs ys None = refl
 kept_twice xs ys (Some held) = ap Some (append_assoc held xs ys)
+
+-- those that were appended last fit, or those before them
+fits_joined : (xs ys : List Span) (old mid new : BootState) → Logged xs old mid → Logged ys mid new → 0 < length (xs ++ ys) → FitsRoom new.log
+fits_joined xs [] old mid new a b some =
+    let windows : new.log.windows ≡ mid.log.windows = b.windows ∙ sym (kept mid.log.windows) in
+    let fits = a.fits (omega (arith, some, length-append xs [])) in
+    subst (λ told. IfSome told (λ held. IfSome new.log.room (λ room. total_size held ≤ room.limit))) (sym windows)
+    (subst (λ told. IfSome mid.log.windows (λ held. IfSome told (λ room. total_size held ≤ room.limit))) (sym b.room) fits)
+fits_joined xs (y ∷ ys) old mid new a b some = b.fits (omega arith)
 
 logs_joined : (xs ys : List Span) (old mid new : BootState) → Logged xs old mid → Logged ys mid new → Logged (xs ++ ys) old new
 logs_joined xs ys old mid new a b = record {
@@ -33,6 +44,7 @@ logs_joined xs ys old mid new a b = record {
   high = b.high ∙ ap (λ n. end_from n ys) a.high ∙ sym (end_from-append old.log.high xs ys);
   windows = b.windows ∙ ap (option_map (λ held. held ++ ys)) a.windows ∙ kept_twice xs ys old.log.windows;
   room = b.room ∙ a.room;
+  fits = fits_joined xs ys old mid new a b;
   keeper = b.keeper ∙ a.keeper;
   mark = b.mark ∙ a.mark;
   halted = b.halted ∙ a.halted;
@@ -42,6 +54,31 @@ logs_same : (xs : List Span) (old mid new : BootState) → Logged xs old mid →
 logs_same xs old mid new a b = subst (λ (ws : List Span). Logged ws old new) (append-nil xs) (logs_joined xs [] old mid new a b)
 
 -- ---- one window more
+
+total_more : (ws : List Span) (w : Span) → total_size (ws ++ w ∷ []) ≡ total_size ws + span_size w
+total_more [] w = omega arith
+total_more (v ∷ ws) w = omega (arith, total_more ws w)
+
+fits_more : (w : Span) (full : ℕ → Bool) (told : Option (List Span)) (room : Option LogRoom) → full (span_size w) ≡ false → IfSome told (λ held. IfSome room (λ r. IsRoomy full held r))
+    → IfSome (option_map (λ held. held ++ w ∷ []) told) (λ held. IfSome room (λ r. total_size held ≤ r.limit))
+fits_more w full None room free roomy = tt
+fits_more w full (Some held) None free roomy = tt
+fits_more w full (Some held) (Some r) free roomy =
+    let room = ltb-false r.limit (total_size held + span_size w) (sym (roomy (span_size w)) ∙ free) in
+    omega (arith, total_more held w)
+
+-- a window that a log took
+appended_fits : (w : Span) (old new : LogState) → IsLog old → AppendsWindow w old new (Ok tt) → FitsRoom new
+appended_fits w old new log appends =
+    let a = appends.leaves in
+    subst (λ told. IfSome told (λ held. IfSome new.room (λ room. total_size held ≤ room.limit))) (sym a.windows)
+    (subst (λ room. IfSome (option_map (λ held. held ++ w ∷ []) old.windows) (λ held. IfSome room (λ r. total_size held ≤ r.limit))) (sym appends.counts.room)
+    (fits_more w old.full old.windows old.room a.free log.roomy))
+
+pub appended_logs : (w : Span) (old : BootState) (log : LogState) → IsLog old.log → AppendsWindow w old.log log (Ok tt) → Logged (w ∷ []) old (record old { log = log })
+appended_logs w old log is appends =
+    let a = appends.leaves in
+    record { floor = a.floor; high = a.high; windows = a.windows; room = appends.counts.room; fits = λ _. appended_fits w old.log log is appends; keeper = refl; mark = refl; halted = refl }
 
 module _ (ws : List Span) (i : ℕ) (w : Span) (old mid new : BootState) (within : i < length ws) (at : w ≡ get_or ws i w) where
   there : slice_get ws i ≡ Some w
@@ -72,7 +109,13 @@ module _ (ws : List Span) (i : ℕ) (w : Span) (old mid new : BootState) (within
   }
   logs_broken X LogFailed a later b =
       let rose = b.rose in
-      record { halted = b.halted; rose = omega arith; keeper = b.keeper ∙ a.keeper; mark = b.mark ∙ a.mark }
+      record {
+        halted = b.halted;
+        rose = omega arith;
+        sound = subst (λ told. IfSome told (λ room. room.sound ≡ false)) a.room b.sound;
+        keeper = b.keeper ∙ a.keeper;
+        mark = b.mark ∙ a.mark;
+      }
   logs_broken X Halted a later b = b
   logs_broken X NoMemory a later b = record { done = i; some = within; logged = logs_same (take i ws) old mid new a b }
 
@@ -118,7 +161,7 @@ logs_takes (Err (Full need)) count bytes ws old new are chained logs high = reco
   need_is = logs.need_is;
   full = logs.full;
 }
-logs_takes (Err LogFailed) count bytes ws old new are chained logs high = logs
+logs_takes (Err LogFailed) count bytes ws old new are chained logs high = ((ws, are, chained), logs)
 logs_takes (Err Halted) count bytes ws old new are chained logs high = absurd logs
 logs_takes (Err NoMemory) count bytes ws old new are chained logs high = record {
   windows = ws;

@@ -159,6 +159,6 @@ module _ (ws : List Span) (t : IsTimeline ws) (old new : BootState) (s : Stands 
     stands_taken (Err (BadReply place)) count takes runs = same_stands takes.0
     stands_taken (Err (Gap floor)) count takes runs = same_stands takes.0
     stands_taken (Err (Full need)) count takes runs = front_stands takes.windows takes.done takes.are takes.logged
-    stands_taken (Err LogFailed) count takes runs = (let halted = takes.halted in absurd cc)
+    stands_taken (Err LogFailed) count takes runs = (let halted = takes.1.halted in absurd cc)
     stands_taken (Err Halted) count takes runs = same_stands takes
     stands_taken (Err NoMemory) count takes runs = front_stands takes.windows takes.done takes.are takes.logged

@@ -1,8 +1,8 @@
 -- What a bootstrap makes of the relay's reply.
-use Rattle.std.specs.Prelude.{◌≡◌, ℕ, ◌-◌, ◌<◌, ◌⊎◌, true, List, [], ◌∷◌, ◌++◌, length, take, option_map, slice_get, Option, Some, Result, Ok, Err}
+use Rattle.std.specs.Prelude.{◌≡◌, ℕ, ◌-◌, ◌<◌, ◌≤◌, ◌⊎◌, true, false, List, [], ◌∷◌, ◌++◌, length, take, option_map, slice_get, Option, Some, IfSome, Result, Ok, Err}
 use Rattle.bus_types.specs.Causes.{Rose}
 use Rattle.bus_types.specs.Window.{Span, span_size}
-use Rattle.bus_types.specs.Timeline.{end_from}
+use Rattle.bus_types.specs.Timeline.{end_from, total_size}
 use Rattle.bus_types.specs.Relay.{is_place, stream}
 use Rattle.partition_filter.specs.Selection.{test_of}
 use Rattle.partition_filter.specs.Selection.Selection.{All}
@@ -16,6 +16,7 @@ use Rattle.bus_wire.specs.declared.ask.Ask.{Ask}
 use Rattle.bus_wire.specs.declared.ask.Ask.TheVariants.{Stream}
 use Rattle.bus_wire.specs.Lawful.{IsLawful, IsFaultAt, IsRun}
 use Rattle.bus_types.specs.declared.limits.TheConstants.{MAX_SCN}
+use Rattle.bus_stores.specs.Log.{LogState}
 use Rattle.bootstrap_core.specs.declared.fault.TakeLog.{TakeLog}
 use Rattle.bootstrap_core.specs.declared.fault.TakeLog.TheVariants.{BadReply, Gap, Full, LogFailed, Halted, NoMemory}
 use Rattle.bootstrap_core.specs.Boot.{BootState}
@@ -43,12 +44,17 @@ abbrev pub IsChained : ℕ → List Span → Type 0
 IsChained high [] = Unit {0}
 IsChained high (w ∷ ws) = w.prev ≡ high
 
--- windows were appended to the log of a bootstrap, and nothing else changed but its count of faults
+-- a log's windows fit into its room, where it tells both
+abbrev pub FitsRoom : LogState → Type 0
+FitsRoom log = IfSome log.windows (λ held. IfSome log.room (λ room. total_size held ≤ room.limit))
+
+-- windows were appended to the log of a bootstrap, and found room, and nothing else changed but its count of faults
 pub record Logged (ws : List Span) (old new : BootState) : Type 0 where
   pub floor : new.log.floor ≡ old.log.floor
   pub high : new.log.high ≡ end_from old.log.high ws
   pub windows : new.log.windows ≡ option_map (λ held. held ++ ws) old.log.windows
   pub room : new.log.room ≡ old.log.room
+  pub fits : 0 < length ws → FitsRoom new.log
   pub keeper : new.keeper ≡ old.keeper
   pub mark : new.mark ≡ old.mark
   pub halted : new.halted ≡ old.halted
@@ -84,10 +90,11 @@ pub record LogsSome (count : ℕ) (bytes : List ℕ) (old new : BootState) : Typ
   pub some : 0 < done → done < length (take count windows)
   pub logged : Logged (take done windows) old new
 
--- the log failed, and the bootstrap halted
+-- the log failed, which no sound log does, and the bootstrap halted
 pub record LogBreaks (old new : BootState) : Type 0 where
   pub halted : new.halted ≡ true
   pub rose : Rose old.log.faults new.log.faults
+  pub sound : IfSome old.log.room (λ room. room.sound ≡ false)
   pub keeper : new.keeper ≡ old.keeper
   pub mark : new.mark ≡ old.mark
 
@@ -103,7 +110,7 @@ TakesLog (Err (BadReply place)) count bytes old new =
     ⊎ ((ws : List Span) × AreWindowsBehind old.log.high bytes ws × (IsChained old.log.high ws → ⊥) × (place ≡ first_mark ws)))
 TakesLog (Err (Gap floor)) count bytes old new = SameBoot old new × IsLawful (log_ask old.log.high) bytes (Only (NotFound floor))
 TakesLog (Err (Full need)) count bytes old new = Fills need count bytes old new
-TakesLog (Err LogFailed) count bytes old new = LogBreaks old new
+TakesLog (Err LogFailed) count bytes old new = ((ws : List Span) × AreWindowsBehind old.log.high bytes ws × IsChained old.log.high ws) × LogBreaks old new
 TakesLog (Err Halted) count bytes old new = SameBoot old new
 TakesLog (Err NoMemory) count bytes old new = LogsSome count bytes old new
 

@@ -1,10 +1,11 @@
-ghost use Rattle.std.specs.Prelude.{◌≡◌, List, Some, MatchOption, IsSome, IfOk, IfErr};
+ghost use Rattle.std.specs.Prelude.{◌≡◌, ◌≤◌, List, Some, MatchOption, MatchResult, IsSome, IfOk, IfErr};
 ghost use Rattle.bus_types.specs.Change.{Test};
 ghost use Rattle.bus_types.specs.Window.{Span};
+ghost use Rattle.event_codec.specs.Frames.{IsAnswer};
 ghost use Rattle.bus_wire.specs.Questions.{Question, Reply};
 ghost use Rattle.bus_wire.specs.True.{boot_reply};
 ghost use Rattle.bus_stores.specs.Keeper.{SameStore};
-ghost use Rattle.bus_stores.specs.Log.{LogState};
+ghost use Rattle.bus_stores.specs.Log.{LogState, IsLog};
 ghost use Rattle.snapshot_applier.specs.BootMark.{IsBootMark, IsBootStored};
 ghost use Rattle.snapshot_applier.specs.declared.boot.BootMark.{BootMark};
 ghost use Rattle.bootstrap_core.specs.Boot.{told, numbers, IsBetween, Stands, StandsForBoot};
@@ -51,6 +52,7 @@ impl<G: WindowLog, K: Keeper> Boot<G, K> {
         ensures log { IfOk result (λ boot. boot.log ≡ log) }
         ensures fault { IfErr result (λ e. OpensNot e.0 (G.state log) (K.state keeper) (K.state e.2)) }
         ensures back { IfErr result (λ e. (e.1 ≡ log) × SameStore (K.state keeper) (K.state e.2)) }
+        ensures faults { MatchResult result (λ boot. (K.state keeper).faults ≤ (K.state boot.keeper).faults) (λ e. (K.state keeper).faults ≤ (K.state e.2).faults) }
 
         // Log and keeper of a bootstrap that stood for a timeline give one that does, at the same numbers, where the keeper tells
         // its content.
@@ -75,21 +77,24 @@ impl<G: WindowLog, K: Keeper> Boot<G, K> {
 
     /// The SCN behind which the log is sure to begin.
     pub fn base(&self) -> u64
-        ensures { result ≡ self.now.mark.base }
+        ensures value { result ≡ self.now.mark.base }
+        ensures lawful { IsBootMark self.now.mark }
     {
         self.mark.base
     }
 
     /// The SCN up to which windows were applied.
     pub fn applied(&self) -> u64
-        ensures { result ≡ self.now.mark.applied }
+        ensures value { result ≡ self.now.mark.applied }
+        ensures lawful { IsBootMark self.now.mark }
     {
         self.mark.applied
     }
 
     /// The SCN of the log's newest window.
     pub fn high(&self) -> u64
-        ensures { result ≡ (G.state self.now.log).high }
+        ensures value { result ≡ (G.state self.now.log).high }
+        ensures log { IsLog (G.state self.now.log) }
     {
         self.log.high()
     }
@@ -103,7 +108,8 @@ impl<G: WindowLog, K: Keeper> Boot<G, K> {
 
     /// How a consumer that has followed up to `since` is to start again; afresh where it gives up its rows.
     pub fn start(&self, since: u64, fresh: bool) -> Answer
-        ensures { (ws : List Span) (test : Test) → boot_reply ws test (numbers (G.state self.now.log) self.now.mark) (Question.Start since fresh) ≡ Reply.Only result }
+        ensures within { IsAnswer result }
+        ensures reply { (ws : List Span) (test : Test) → boot_reply ws test (numbers (G.state self.now.log) self.now.mark) (Question.Start since fresh) ≡ Reply.Only result }
     {
         let high = self.log.high();
         if fresh {
@@ -124,7 +130,8 @@ impl<G: WindowLog, K: Keeper> Boot<G, K> {
 
     /// Up to where a scan that began at `start` is to be replayed, at least up to `atleast`.
     pub fn target(&self, start: u64, atleast: u64) -> Answer
-        ensures { (ws : List Span) (test : Test) → boot_reply ws test (numbers (G.state self.now.log) self.now.mark) (Question.Target start atleast) ≡ Reply.Only result }
+        ensures within { IsAnswer result }
+        ensures reply { (ws : List Span) (test : Test) → boot_reply ws test (numbers (G.state self.now.log) self.now.mark) (Question.Target start atleast) ≡ Reply.Only result }
     {
         let high = self.log.high();
         if self.mark.base > start {
@@ -151,6 +158,7 @@ fn stored_mark<K: Keeper>(alloc: Global, keeper: &mut K) -> Result<BootMark, Boo
     ensures stored { IfOk result (Stores (K.state keeper.old)) }
     ensures fault { IfErr result (λ fault. (log : LogState) → OpensNot fault log (K.state keeper.old) (K.state keeper.new)) }
     ensures same { SameStore (K.state keeper.old) (K.state keeper.new) }
+    ensures faults { (K.state keeper.old).faults ≤ (K.state keeper.new).faults }
 {
     match keeper.mark(alloc) {
         Ok(None) => Ok(BootMark {

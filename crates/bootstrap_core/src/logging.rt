@@ -90,6 +90,7 @@ impl<G: WindowLog, K: Keeper> Boot<G, K> {
         ensures logs { LogsWindow result window.now (told G.state K.state self.old) (told G.state K.state self.new) }
         ensures faults { (G.state self.old.log).faults ≤ (G.state self.new.log).faults }
     {
+        let _room = self.log.high();
         match self.log.append(alloc, window) {
             Ok(()) => Ok(()),
             Err(LogFault::Full) => Err(TakeLog::Full {
