@@ -73,6 +73,9 @@ impl<G: WindowLog, K: Keeper> Boot<G, K> {
         ensures trims { Trims result scn (told G.state K.state self.old) (told G.state K.state self.new) }
         ensures log_faults { (G.state self.old.log).faults ≤ (G.state self.new.log).faults }
         ensures faults { (K.state self.old.keeper).faults ≤ (K.state self.new.keeper).faults }
+
+        // One that stands for a timeline, whose log tells its windows, still does; after a fault of the keeper, at the base
+        // before the commit or after. After a fault of the log that is opened again.
         ensures stands { (ws : List Span) → IsTimeline ws → Stands ws (told G.state K.state self.old) → TellsWindows (G.state self.old.log) → self.new.halted ≡ false →
             Stands ws (told G.state K.state self.new) }
         ensures reopens { (ws : List Span) → IsTimeline ws → Stands ws (told G.state K.state self.old) → TellsWindows (G.state self.old.log) → self.old.halted ≡ false →
