@@ -1,4 +1,4 @@
-ghost use Rattle.std.specs.Prelude.{◌≡◌, ◌<◌, ◌≤◌, ◌↔◌, true, false, List, IfOk, IsErrOf};
+ghost use Rattle.std.specs.Prelude.{◌≡◌, ◌<◌, ◌≤◌, ◌↔◌, true, false, List, IfOk, IfSome, IsErrOf};
 ghost use Rattle.bus_types.specs.Window.{Span};
 ghost use Rattle.bus_types.specs.Timeline.{IsTimeline};
 ghost use Rattle.bus_stores.specs.Keeper.{Commits};
@@ -28,6 +28,7 @@ impl<G: WindowLog, K: Keeper> Boot<G, K> {
         ensures applies { AppliesBoot result n (told G.state K.state self.old) (told G.state K.state self.new) }
         ensures log_faults { (G.state self.old.log).faults ≤ (G.state self.new.log).faults }
         ensures faults { (K.state self.old.keeper).faults ≤ (K.state self.new.keeper).faults }
+        ensures sound { IsErrOf result BootFault.LogFailed → IfSome (G.state self.old.log).room (λ room. room.sound ≡ false) }
 
         // One that stands for a timeline, whose log tells its windows, still does; after a fault of the keeper, at the numbers
         // before the commit or after.
@@ -73,6 +74,7 @@ impl<G: WindowLog, K: Keeper> Boot<G, K> {
         ensures trims { Trims result scn (told G.state K.state self.old) (told G.state K.state self.new) }
         ensures log_faults { (G.state self.old.log).faults ≤ (G.state self.new.log).faults }
         ensures faults { (K.state self.old.keeper).faults ≤ (K.state self.new.keeper).faults }
+        ensures sound { IsErrOf result BootFault.LogFailed → IfSome (G.state self.old.log).room (λ room. room.sound ≡ false) }
 
         // One that stands for a timeline, whose log tells its windows, still does; after a fault of the keeper, at the base
         // before the commit or after. After a fault of the log that is opened again.
@@ -101,6 +103,7 @@ impl<G: WindowLog, K: Keeper> Boot<G, K> {
         ensures log { IfOk result (λ done. IsLog (G.state self.new.log)) }
         ensures log_faults { (G.state self.old.log).faults ≤ (G.state self.new.log).faults }
         ensures faults { (K.state self.old.keeper).faults ≤ (K.state self.new.keeper).faults }
+        ensures sound { IsErrOf result BootFault.LogFailed → IfSome (G.state self.old.log).room (λ room. room.sound ≡ false) }
     {
         let mark = BootMark {
             base,

@@ -1,4 +1,4 @@
-use Rattle.std.proofs.Common.{Ok, rules, subst}
+use Rattle.std.proofs.Common.{◌≡◌, false, Ok, IfSome, rules, subst}
 use Rattle.bootstrap_core.specs.Boot.{BootState, told}
 use Rattle.bootstrap_core.specs.Trimming.{ReadsNewest}
 use Rattle.bootstrap_core.proofs.TrimSteps.{TrimMeets, trim_meets}
@@ -28,6 +28,7 @@ returns-in-Ok g c =
       trims = met.trims;
       log_faults = search rules;
       faults = search rules;
+      sound = λ e. subst (λ b. IfSome (g.G.WindowLog.state b.log).room (λ room. room.sound ≡ false)) c.self.view_is (subst (λ room. IfSome room (λ r. r.sound ≡ false)) reads.counts.room (c.set_base.ensures.sound e));
       stands = met.stands;
       reopens = met.reopens;
     }
