@@ -1,6 +1,6 @@
-use crate::{Boot, BootOpen, TakeLog};
+use crate::{Boot, TakeLog};
 use bus_stores::{MemoryKeeper, MemoryLog};
-use bus_types::{Change, Key, Payload, Window};
+use bus_types::{Change, Key, NoMemory, Payload, Window};
 use event_codec::{Answer, write_window};
 use std::alloc::Global;
 
@@ -67,40 +67,43 @@ fn windows_are_logged_applied_and_trimmed(rt: HostRuntime) {
 }
 
 #[test]
-fn a_window_without_room_is_refused(rt: HostRuntime) {
+fn a_window_without_room_is_refused(rt: HostRuntime) -> Result<(), NoMemory> {
     let alloc = rt.alloc();
-    let mut boot = new_boot(alloc, 40).unwrap();
-    let reply = window_bytes(alloc, 10, 0, 1, 0xaa).unwrap();
+    let mut boot = new_boot(alloc, 40).ok_or(NoMemory)?;
+    let reply = window_bytes(alloc, 10, 0, 1, 0xaa).ok_or(NoMemory)?;
     assert_eq!(rt;
         boot.take_log(alloc, &reply, 32),
         Err(TakeLog::Full { need: 41 })
     );
     assert_eq!(rt; numbers(&boot), (0, 0, 0));
+    Ok(())
 }
 
 #[test]
-fn a_window_that_does_not_follow_is_refused(rt: HostRuntime) {
+fn a_window_that_does_not_follow_is_refused(rt: HostRuntime) -> Result<(), NoMemory> {
     let alloc = rt.alloc();
-    let mut boot = new_boot(alloc, 1000).unwrap();
-    let first = window_bytes(alloc, 10, 0, 1, 0xaa).unwrap();
+    let mut boot = new_boot(alloc, 1000).ok_or(NoMemory)?;
+    let first = window_bytes(alloc, 10, 0, 1, 0xaa).ok_or(NoMemory)?;
     assert_eq!(rt; boot.take_log(alloc, &first, 32), Ok(10));
-    let reply = window_bytes(alloc, 20, 5, 1, 0xaa).unwrap();
+    let reply = window_bytes(alloc, 20, 5, 1, 0xaa).ok_or(NoMemory)?;
     assert_eq!(rt;
         boot.take_log(alloc, &reply, 32),
         Err(TakeLog::BadReply { place: 24 })
     );
     assert_eq!(rt; numbers(&boot), (0, 0, 10));
+    Ok(())
 }
 
 #[test]
-fn who_fell_behind_is_told_how_to_start(rt: HostRuntime) {
+fn who_fell_behind_is_told_how_to_start(rt: HostRuntime) -> Result<(), NoMemory> {
     let alloc = rt.alloc();
-    let mut boot = new_boot(alloc, 1000).unwrap();
-    let reply = window_bytes(alloc, 10, 0, 1, 0xaa).unwrap();
+    let mut boot = new_boot(alloc, 1000).ok_or(NoMemory)?;
+    let reply = window_bytes(alloc, 10, 0, 1, 0xaa).ok_or(NoMemory)?;
     assert_eq!(rt; boot.take_log(alloc, &reply, 32), Ok(10));
     assert_eq!(rt; boot.start(0, false), Answer::StartDelta(10));
     assert_eq!(rt; boot.start(10, false), Answer::Behind(10));
     assert_eq!(rt; boot.start(0, true), Answer::StartSnapshot(0));
     assert_eq!(rt; boot.target(0, 10), Answer::Target(10));
     assert_eq!(rt; boot.target(0, 11), Answer::Behind(10));
+    Ok(())
 }
