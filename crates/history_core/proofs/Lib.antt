@@ -1,5 +1,9 @@
 pub mod Members
 pub mod Feeding
+pub mod Booted
+pub mod LogRuns
+pub mod LogTakes
+pub mod BootMoves
 pub mod Sound
 pub mod Forward
 pub mod Replying

@@ -29,17 +29,18 @@ use Rattle.client_switch.specs.Moves.{Wish, Turn, turn}
 use Rattle.client_switch.specs.Moves.Wish.{NoWish}
 use Rattle.client_switch.specs.Good.{Good}
 use Rattle.client_switch.specs.Client.{Held, IsStored, Keeps, IsAskOf, asks, IsReply, move_of_turn, Made, Unmade, TakesIt, RefusesReply, Halts, Takes, CountsKept, OnRefused, HasRefusal, HoldsGood, KeepsGood, AreTrueOf}
-use Rattle.bus_wire.specs.True.{IsTrueOf}
+use Rattle.bus_wire.specs.True.{Boot, IsTrueOf}
 use Rattle.client_switch.specs.Turning.{CanCome}
 use Rattle.client_switch.proofs.Coming.{can_come}
 use Rattle.client_switch.proofs.Turns.{stays, lawful}
 use Rattle.history_core.specs.Script.{Follower, reply_line, stopped_line}
-use Rattle.history_core.specs.Steps.{committed, after_reply}
+use Rattle.history_core.specs.Steps.{committed, followed, after_reply}
 use Rattle.history_core.specs.Bus.{MemberState, follower, IsReached, IsMember}
-use Rattle.history_core.specs.Acting.{IsReopened, sent, shape_line, Polls}
-use Rattle.history_core.specs.Polling.{Comes}
+use Rattle.history_core.specs.Acting.{IsReopened, shape_line}
+use Rattle.history_core.specs.Polling.{Comes, TookReply}
+use Rattle.history_core.proofs.Booted.{none_listed}
 use Rattle.history_core.proofs.Members.{one_stored, reached_again}
-use Rattle.history_core.proofs.Replying.{printed, expected, some_shape, only_reply, expected_is_true, expected_reached}
+use Rattle.history_core.proofs.Replying.{printed, expected, followed_some, some_shape, only_reply, expected_followed, expected_is_true, expected_reached}
 
 -- ---- keepers in memory
 
@@ -49,10 +50,6 @@ content_of s = record { rows = s.rows; mark = last_mark s.marks }
 
 abbrev stops_of : MemoryStore → Stops
 stops_of s = record { marks = s.marks; armed = s.armed; sound = no_fails s.fails }
-
-none_listed : (fails : List Fail) → no_fails fails ≡ true → fails ≡ []
-none_listed [] sound = refl
-none_listed (f ∷ fs) sound = absurd (true≢false (sym sound))
 
 still_sound : (old new : MemoryStore) → no_fails new.fails ≡ no_fails old.fails → old.fails ≡ [] → new.fails ≡ []
 still_sound old new same sound = none_listed new.fails (same ∙ ap no_fails sound)
@@ -167,24 +164,30 @@ pub record Exchanged (old : MemberState) (ask : Ask) (bytes : List ℕ) (client 
   pub good : (ws : List Span) (most : ℕ) → IsTimeline ws → HoldsGood ws (test_of old.client.filter) old.client.mark (told_by old.store) → IsAskOf old.client.filter (asks old.client most) ask
       → AreTrueOf ws (test_of old.client.filter) (asks old.client most) ask bytes → KeepsGood ws (test_of old.client.filter) (told_by store)
 
-module _ (ws : List Span) (r : Relay) (most : ℕ) (old : MemberState) (ask : Ask) (bytes : List ℕ) (comes : Comes ws r most old ask bytes) where
+module _ (ws : List Span) (r : Relay) (boot : Boot) (most : ℕ) (old : MemberState) (ask : Ask) (bytes : List ℕ) (comes : Comes ws r boot most old ask bytes) where
   abbrev defined : Reply
-  defined = expected ws r old.client.filter (asks old.client most)
+  defined = expected ws r boot old.client.filter (asks old.client most)
 
   -- a lawful reply is the one that is defined
   only : (shape : Shape) (reply : Reply) → IsLawful ask bytes shape → IsReply shape bytes reply → reply ≡ defined
   only shape reply law read =
-      only_reply ws r old.client.filter comes.stands most ask bytes comes.reply shape reply law read old.client.mark old.client.wish comes.member.reached comes.asked
+      only_reply ws r boot old.client.filter comes.stands comes.lawful most ask bytes comes.reply comes.answered shape reply law read old.client.mark old.client.wish comes.member.reached comes.asked
 
   true_of : AreTrueOf ws (test_of old.client.filter) (asks old.client most) ask bytes
   true_of shape reply law read =
       subst (IsTrueOf ws (test_of old.client.filter) (asks old.client most)) (sym (only shape reply law read))
-      (expected_is_true ws r old.client.filter comes.stands most old.client.mark old.client.wish comes.member.reached)
+      (expected_is_true ws r boot old.client.filter comes.stands comes.lawful most old.client.mark old.client.wish comes.member.reached)
 
   reached : (reply : Reply) → reply ≡ defined → (let t = turn old.client.mark reply in IsReached t.mark t.wish)
   reached reply same =
       subst (λ (a : Reply). (let t = turn old.client.mark a in IsReached t.mark t.wish)) (sym same)
-      (expected_reached ws r old.client.filter comes.stands most old.client.mark old.client.wish comes.member.reached)
+      (expected_reached ws r boot old.client.filter comes.stands comes.lawful most ask bytes comes.reply comes.answered old.client.mark old.client.wish comes.member.reached comes.asked)
+
+  -- what a script says of it
+  turns_so : (next : Follower × List ℕ) → next ≡ after_reply (follower old) defined → followed (follower old) defined ≡ Some next
+  turns_so next is =
+      followed_some (follower old) defined (expected_followed ws r boot old.client.filter comes.stands comes.lawful most ask bytes comes.reply comes.answered old.client.mark old.client.wish comes.member.reached comes.asked)
+      ∙ ap Some (sym is)
 
   comes_at : (shape : Shape) → IsLawful ask bytes shape → CanCome old.client.mark shape bytes
   comes_at shape law = can_come old.client.mark old.client.wish old.client.filter most ask bytes shape comes.asked law
@@ -197,7 +200,7 @@ module _ (ws : List Span) (r : Relay) (most : ℕ) (old : MemberState) (ask : As
     still_good = after.good ws most comes.stands.timeline (comes.member.stored, comes.member.good) comes.asked true_of
 
     -- the reply was taken
-    taken : (took : Took) (text : List ℕ) → TakesIt took old.client client ask bytes (told_by old.store) (told_by store) None None → text ≡ shape_line took.shape (length bytes) → Polls ws r most old (record old { client = client; store = store }) text
+    taken : (took : Took) (text : List ℕ) → TakesIt took old.client client ask bytes (told_by old.store) (told_by store) None None → text ≡ shape_line took.shape (length bytes) → TookReply ws r boot most old (record old { client = client; store = store }) text
     taken took text takes line =
         let reply = takes.reply in
         let t = turn old.client.mark reply in
@@ -209,9 +212,10 @@ module _ (ws : List Span) (r : Relay) (most : ℕ) (old : MemberState) (ask : As
         let calls = after.counts.calls in
         record {
           turn =
-              took_turn t.commits t old client store text (reply_line reply) (stays old.client.mark took.shape bytes reply (comes_at took.shape takes.lawful) takes.is) comes.member.sound takes.made takes.client
+              turns_so _
+              (took_turn t.commits t old client store text (reply_line reply) (stays old.client.mark took.shape bytes reply (comes_at took.shape takes.lawful) takes.is) comes.member.sound takes.made takes.client
               (line ∙ printed took.shape bytes reply takes.is)
-              ∙ ap (after_reply (follower old)) same_reply;
+              ∙ ap (after_reply (follower old)) same_reply);
           member = record {
             runs = runs;
             sound = made_sound t.commits t old.store store comes.member.sound takes.made;
@@ -231,7 +235,7 @@ module _ (ws : List Span) (r : Relay) (most : ℕ) (old : MemberState) (ask : As
       stopped_stored = (still_good.0, still_good.1)
 
       -- and it was
-      stopped : (new : MemberState) (text : List ℕ) → IsReopened (record old { store = store }) new → IfSome old.store.armed (λ stop. text ≡ stopped_line stop) → Polls ws r most old new text
+      stopped : (new : MemberState) (text : List ℕ) → IsReopened (record old { store = store }) new → IfSome old.store.armed (λ stop. text ≡ stopped_line stop) → TookReply ws r boot most old new text
       stopped new text opened line =
           let reply = halts.reply in
           let t = turn old.client.mark reply in
@@ -244,8 +248,9 @@ module _ (ws : List Span) (r : Relay) (most : ℕ) (old : MemberState) (ask : As
           let reached_after = reached_again t.mark t.wish (reached reply same_reply) in
           record {
             turn =
-                stopped_turn t old store new text (reply_line reply) comes.member.sound opened line t.commits comes.member.stored mark halts.unmade
-                ∙ ap (after_reply (follower old)) same_reply;
+                turns_so _
+                (stopped_turn t old store new text (reply_line reply) comes.member.sound opened line t.commits comes.member.stored mark halts.unmade
+                ∙ ap (after_reply (follower old)) same_reply);
             member = record {
               runs = opened.runs;
               sound = opened.read.fails ∙ stopped_sound;
@@ -263,27 +268,27 @@ module _ (ws : List Span) (r : Relay) (most : ℕ) (old : MemberState) (ask : As
 -- ---- by the answer
 
 -- its client runs, what comes to it is lawful, and nobody refuses it
-pub no_fault : (ws : List Span) (r : Relay) (most : ℕ) (old : MemberState) (ask : Ask) (bytes : List ℕ) (client : Held) (store : MemoryStore) (result : Result Took TakeFault) (fault : TakeFault) → Comes ws r most old ask bytes → result ≡ Err fault
+pub no_fault : (ws : List Span) (r : Relay) (boot : Boot) (most : ℕ) (old : MemberState) (ask : Ask) (bytes : List ℕ) (client : Held) (store : MemoryStore) (result : Result Took TakeFault) (fault : TakeFault) → Comes ws r boot most old ask bytes → result ≡ Err fault
     → (IsErrOf result Halted ↔ (old.client.halted ≡ true)) → Takes result old.client client ask bytes (told_by old.store) (told_by store) None None → HasRefusal 0 0 result → MayCome fault
-no_fault ws r most old ask bytes client store result Halted comes is halts takes refusals = true≢false (sym (halts.0 is) ∙ comes.member.runs)
-no_fault ws r most old ask bytes client store result (BadReply place) comes is halts takes refusals =
+no_fault ws r boot most old ask bytes client store result Halted comes is halts takes refusals = true≢false (sym (halts.0 is) ∙ comes.member.runs)
+no_fault ws r boot most old ask bytes client store result (BadReply place) comes is halts takes refusals =
     let refused : RefusesReply place old.client client ask bytes (told_by old.store) (told_by store) None None = subst (λ (a : Result Took TakeFault). Takes a old.client client ask bytes (told_by old.store) (told_by store) None None) is takes in
-    let shape = some_shape ws r old.client.filter comes.stands most ask bytes comes.reply old.client.mark old.client.wish comes.member.reached comes.asked in
+    let shape = some_shape ws r boot old.client.filter comes.stands comes.lawful most ask bytes comes.reply comes.answered old.client.mark old.client.wish comes.member.reached comes.asked in
     refused.unlawful shape.0 shape.1
-no_fault ws r most old ask bytes client store result (Refused scn) comes is halts takes refusals =
+no_fault ws r boot most old ask bytes client store result (Refused scn) comes is halts takes refusals =
     let rose : Rose 0 0 = subst (λ (a : Result Took TakeFault). OnRefused a (Rose 0 0)) is refusals.refused in
     absurd (omega (arith, rose))
-no_fault ws r most old ask bytes client store result StoreFault comes is halts takes refusals = tt
-no_fault ws r most old ask bytes client store result NoMemory comes is halts takes refusals = tt
+no_fault ws r boot most old ask bytes client store result StoreFault comes is halts takes refusals = tt
+no_fault ws r boot most old ask bytes client store result NoMemory comes is halts takes refusals = tt
 
 -- of whatever windows, relay and ask
 abbrev pub PollsAll : Result (Vec ℕ Global) OutOfMemory → MemberState → MemberState → Ask → List ℕ → Type 0
-PollsAll result old new ask bytes = IfOk result (λ text. (ws : List Span) (r : Relay) (most : ℕ) → Comes ws r most old ask bytes → Polls ws r most old new text.items)
+PollsAll result old new ask bytes = IfOk result (λ text. (ws : List Span) (r : Relay) (boot : Boot) (most : ℕ) → Comes ws r boot most old ask bytes → TookReply ws r boot most old new text.items)
 
 pub took_done : (old : MemberState) (ask : Ask) (bytes : List ℕ) (client : Held) (store : MemoryStore) (answer : Took) (result : Result (Vec ℕ Global) OutOfMemory) → Exchanged old ask bytes client store
     → TakesIt answer old.client client ask bytes (told_by old.store) (told_by store) None None → IfOk result (λ text. text.items ≡ shape_line answer.shape (length bytes)) → PollsAll result old (record old { client = client; store = store }) ask bytes
 took_done old ask bytes client store answer (Err e) after takes line = tt
-took_done old ask bytes client store answer (Ok text) after takes line = λ ws r most comes. taken ws r most old ask bytes comes client store after answer text.items takes line
+took_done old ask bytes client store answer (Ok text) after takes line = λ ws r boot most comes. taken ws r boot most old ask bytes comes client store after answer text.items takes line
 
 -- what is opened is the same, whatever the client was
 opened_same : (old : MemberState) (client : Held) (store : MemoryStore) (new : MemberState) → client.filter ≡ old.client.filter → IsReopened (record old { client = client; store = store }) new → IsReopened (record old { store = store }) new
@@ -301,13 +306,7 @@ pub stopped_done : (old : MemberState) (ask : Ask) (bytes : List ℕ) (client : 
     → Halts old.client client ask bytes (told_by old.store) (told_by store) None None → armed ≡ old.store.armed → OnOk result (IsReopened (record old { client = client; store = store }) new) → IfOk result (λ text. IfSome armed (λ stop. text.items ≡ stopped_line stop))
     → PollsAll result old new ask bytes
 stopped_done old ask bytes client store new armed (Err e) after halts same_armed opened line = tt
-stopped_done old ask bytes client store new armed (Ok text) after halts same_armed opened line = λ ws r most comes.
-    stopped ws r most old ask bytes comes client store after halts new text.items
+stopped_done old ask bytes client store new armed (Ok text) after halts same_armed opened line = λ ws r boot most comes.
+    stopped ws r boot most old ask bytes comes client store after halts new text.items
     (opened_same old client store new (ap (λ (h : Held). h.filter) halts.client) opened)
     (subst (λ (a : Option Stop). IfSome a (λ stop. text.items ≡ stopped_line stop)) same_armed line)
-
--- what is made of the reply to an ask of its client is what a poll does
-pub polled : (old new : MemberState) (r : Relay) (most : ℕ) (ask : Ask) (bytes : List ℕ) (result : Result (Vec ℕ Global) OutOfMemory) → IsAskOf old.client.filter (asks old.client most) ask → bytes ≡ sent r ask → PollsAll result old new ask bytes
-    → IfOk result (λ text. (ws : List Span) → StandsFor ws r → IsMember ws old → Polls ws r most old new text.items)
-polled old new r most ask bytes (Err e) asked is polls = tt
-polled old new r most ask bytes (Ok text) asked is polls = λ ws stands member. polls ws r most (record { stands = stands; member = member; asked = asked; reply = is })

@@ -1,14 +1,15 @@
 -- What is sent to who asks is lawful, and is read as the one reply that is defined.
-use Rattle.std.proofs.Common.{◌≡◌, ℕ, true, false, codes, List, [], ◌∷◌, length, length-append, refl, sym, ap, subst, ◌∙◌, arith}
+use Rattle.std.proofs.Common.{◌≡◌, ℕ, Some, None, Bool, true, false, cond, nat_le, codes, List, [], ◌∷◌, length, length-append, refl, sym, ap, subst, ◌∙◌, arith}
 use Rattle.std.specs.List.{AllByRecursion}
-use Rattle.std.proofs.lemmas.Bool.{le-leb}
+use Rattle.bus_types.specs.Change.{Test}
 use Rattle.bus_types.specs.Window.{Span, IsSpan}
 use Rattle.bus_types.specs.Timeline.{total_size}
 use Rattle.bus_types.specs.Relay.{Served, Relay, StandsFor, is_place, answer_of, stream}
 use Rattle.bus_types.specs.Relay.Served.{NotFound as NoWindow, Empty as NothingNew, TooSmall as TooLarge, Windows as SomeWindows}
 use Rattle.bus_types.proofs.Floors.{floor_is, stands_answers}
 use Rattle.partition_filter.specs.Selection.{Selection, test_of}
-use Rattle.event_codec.specs.declared.answer.Answer.TheVariants.{Behind}
+use Rattle.event_codec.specs.declared.answer.Answer.{Answer}
+use Rattle.event_codec.specs.declared.answer.Answer.TheVariants.{Behind, StartDelta, StartSnapshot}
 use Rattle.event_codec.specs.declared.reply.Shape.{Shape}
 use Rattle.event_codec.specs.declared.reply.Shape.TheVariants as shapes
 use Rattle.event_codec.specs.Bytes.{window_bytes}
@@ -22,7 +23,7 @@ use Rattle.bus_wire.specs.declared.ask.Ask.TheVariants.{Stream as StreamAsk, Sta
 use Rattle.bus_wire.specs.Lawful.{IsLawful, after_floor}
 use Rattle.bus_wire.specs.Served.{served_shape, Serves}
 use Rattle.bus_wire.proofs.Uniqueness.{one_shape}
-use Rattle.bus_wire.proofs.Replies.{relay_serves, relay_is_lawful}
+use Rattle.bus_wire.proofs.Replies.{place_bound, relay_serves, relay_is_lawful}
 use Rattle.checkpoint.specs.declared.mark.Mark.{Mark}
 use Rattle.checkpoint.specs.declared.mark.Mark.TheVariants.{Online, Delta, Snapshot, Scanned, Catchup}
 use Rattle.bus_wire.specs.Questions.{Question, Reply}
@@ -31,11 +32,12 @@ use Rattle.client_switch.specs.Moves.Wish.{NoWish, StartWish, FreshWish}
 use Rattle.bus_wire.specs.Questions.Question.{Stream, Start}
 use Rattle.bus_wire.specs.Questions.Reply.{Windows, Only}
 use Rattle.client_switch.specs.Client.{is_built, IsAskOf, IsReply}
-use Rattle.bus_wire.specs.True.{reply_of, IsTrueOf}
-use Rattle.history_core.specs.Script.{new_boot, served_line, reply_line}
-use Rattle.history_core.specs.Steps.{replied}
-use Rattle.history_core.specs.Bus.{IsReached}
-use Rattle.history_core.specs.Acting.{sent, shape_line}
+use Rattle.bus_wire.specs.True.{Boot, IsBoot, reply_of, boot_reply, IsTrueOf}
+use Rattle.history_core.specs.Script.{Follower, served_line, reply_line}
+use Rattle.history_core.specs.Steps.{is_followed, followed, after_reply, replied}
+use Rattle.history_core.specs.Bus.{MemberState, follower, IsReached, IsMember}
+use Rattle.history_core.specs.Acting.{IsSent, IsAnswered, shape_line, replied_to}
+use Rattle.history_core.specs.Polling.{IsUnanswered}
 
 -- ---- what is asked
 
@@ -89,6 +91,26 @@ served_reached scn (NothingNew n) = tt
 served_reached scn (TooLarge n) = tt
 served_reached scn (SomeWindows ws) = tt
 
+-- it is built what a consumer does behind what a relay serves
+served_followed : (served : Served) → is_followed (reply_of served) ≡ true
+served_followed (NoWindow n) = refl
+served_followed (NothingNew n) = refl
+served_followed (TooLarge n) = refl
+served_followed (SomeWindows ws) = refl
+
+-- behind what a bootstrap answers to who is online it is, where that isn't further yet
+behind_followed : (late low : Bool) (high applied : ℕ) → is_followed (cond late (Only (Behind high)) (cond low (Only (StartDelta high)) (Only (StartSnapshot applied)))) ≡ true → late ≡ true
+behind_followed true low high applied e = refl
+behind_followed false true high applied e = absurd cc
+behind_followed false false high applied e = absurd cc
+
+-- a consumer that takes no reply behind which nothing is built
+pub followed_none : (c : Follower) (reply : Reply) → is_followed reply ≡ false → followed c reply ≡ None
+followed_none c reply e = rw e refl
+
+pub followed_some : (c : Follower) (reply : Reply) → is_followed reply ≡ true → followed c reply ≡ Some (after_reply c reply)
+followed_some c reply e = rw e refl
+
 -- ---- what is printed
 
 -- what is printed by the shape of a reply is what is defined for the reply
@@ -103,54 +125,88 @@ printed (shapes.Only answer) bytes reply is = ap reply_line (sym is)
 
 -- ---- the reply to who asks a relay that stands for a timeline, or its bootstrap
 
-abbrev pub expected : List Span → Relay → Selection → Question → Reply
-expected ws r filter q = replied ws r.floor r.tail new_boot (test_of filter) q
+abbrev pub expected : List Span → Relay → Boot → Selection → Question → Reply
+expected ws r boot filter q = replied ws r.floor r.tail boot (test_of filter) q
 
-module _ (ws : List Span) (r : Relay) (filter : Selection) (stands : StandsFor ws r) where
+module _ (ws : List Span) (r : Relay) (boot : Boot) (filter : Selection) (stands : StandsFor ws r) (booted : IsBoot ws boot) where
   abbrev defined : Question → Reply
-  defined q = expected ws r filter q
+  defined q = expected ws r boot filter q
 
-  stream_lawful : (scn most : ℕ) (bytes : List ℕ) → bytes ≡ sent r (StreamAsk scn filter most) → IsLawful (StreamAsk scn filter most) bytes (served_shape (answer_of r scn (test_of filter) most))
+  stream_lawful : (scn most : ℕ) (bytes : List ℕ) → IsSent r boot (StreamAsk scn filter most) bytes → IsLawful (StreamAsk scn filter most) bytes (served_shape (answer_of r scn (test_of filter) most))
   stream_lawful scn most bytes is =
       let served : Served = answer_of r scn (test_of filter) most in
       subst (λ (b : List ℕ). IsLawful (StreamAsk scn filter most) b (served_shape served)) (sym is) (relay_is_lawful ws r scn filter most stands)
 
-  stream_only : (scn most : ℕ) (bytes : List ℕ) (shape : Shape) (reply : Reply) → bytes ≡ sent r (StreamAsk scn filter most) → IsLawful (StreamAsk scn filter most) bytes shape → IsReply shape bytes reply → reply ≡ defined (Stream scn most)
+  stream_only : (scn most : ℕ) (bytes : List ℕ) (shape : Shape) (reply : Reply) → IsSent r boot (StreamAsk scn filter most) bytes → IsLawful (StreamAsk scn filter most) bytes shape → IsReply shape bytes reply → reply ≡ defined (Stream scn most)
   stream_only scn most bytes shape reply is lawful read =
       let served : Served = answer_of r scn (test_of filter) most in
       let same : shape ≡ served_shape served = one_shape (StreamAsk scn filter most) bytes shape (served_shape served) lawful (stream_lawful scn most bytes is) in
       served_is scn most filter served bytes reply (relay_serves ws r scn filter most stands) is (subst (λ (s : Shape). IsReply s bytes reply) same read)
       ∙ ap reply_of (stands_answers ws r scn (test_of filter) most stands)
 
-  start_lawful : (since : ℕ) (bytes : List ℕ) → bytes ≡ answer_bytes (Behind 0) → IsLawful (StartAsk since false) bytes (shapes.Only (Behind 0))
-  start_lawful since bytes is = (is, record { within = record { number = omega arith }; lawful = le-leb 0 since (omega arith) })
+  -- who is online is answered that the bootstrap isn't further yet
+  start_late : (since : ℕ) → IsAnswered boot (StartAsk since false) → nat_le boot.high since ≡ true
+  start_late since answered = behind_followed (nat_le boot.high since) (nat_le boot.base since) boot.high boot.applied (answered ws (test_of filter))
 
-  start_is : (since : ℕ) → defined (Start since false) ≡ Only (Behind 0)
-  start_is since = rw (le-leb 0 since (omega arith)) refl
+  start_is : (since : ℕ) → IsAnswered boot (StartAsk since false) → defined (Start since false) ≡ Only (Behind boot.high)
+  start_is since answered = rw (start_late since answered) refl
 
-  start_only : (since : ℕ) (bytes : List ℕ) (shape : Shape) (reply : Reply) → bytes ≡ answer_bytes (Behind 0) → IsLawful (StartAsk since false) bytes shape → IsReply shape bytes reply → reply ≡ Only (Behind 0)
-  start_only since bytes shape reply is lawful read =
-      let same : shape ≡ shapes.Only (Behind 0) = one_shape (StartAsk since false) bytes shape (shapes.Only (Behind 0)) lawful (start_lawful since bytes is) in
+  start_bytes : (since : ℕ) (bytes : List ℕ) → IsAnswered boot (StartAsk since false) → IsSent r boot (StartAsk since false) bytes → bytes ≡ answer_bytes (Behind boot.high)
+  start_bytes since bytes answered is =
+      let same : Only is.0 ≡ Only (Behind boot.high) = sym (is.1 ws (test_of filter)) ∙ start_is since answered in
+      let answer : is.0 ≡ Behind boot.high = cc in
+      is.2 ∙ ap answer_bytes answer
+
+  start_lawful : (since : ℕ) (bytes : List ℕ) → IsAnswered boot (StartAsk since false) → IsSent r boot (StartAsk since false) bytes → IsLawful (StartAsk since false) bytes (shapes.Only (Behind boot.high))
+  start_lawful since bytes answered is =
+      (start_bytes since bytes answered is, record { within = record { number = place_bound boot.high ws stands.timeline booted.high_place }; lawful = start_late since answered })
+
+  start_only : (since : ℕ) (bytes : List ℕ) (shape : Shape) (reply : Reply) → IsAnswered boot (StartAsk since false) → IsSent r boot (StartAsk since false) bytes → IsLawful (StartAsk since false) bytes shape → IsReply shape bytes reply
+      → reply ≡ Only (Behind boot.high)
+  start_only since bytes shape reply answered is lawful read =
+      let same : shape ≡ shapes.Only (Behind boot.high) = one_shape (StartAsk since false) bytes shape (shapes.Only (Behind boot.high)) lawful (start_lawful since bytes answered is) in
       subst (λ (s : Shape). IsReply s bytes reply) same read
 
-  module _ (most : ℕ) (ask : Ask) (bytes : List ℕ) (is : bytes ≡ sent r ask) where
+  module _ (most : ℕ) (ask : Ask) where
     abbrev Asks : Mark → Wish → Type 0
     Asks mark wish = IsAskOf filter (question mark wish most) ask
 
-    at_ask : (other : Ask) → ask ≡ other → bytes ≡ sent r other
-    at_ask other same = is ∙ ap (sent r) same
+    -- nothing is sent only where nothing is built behind the reply that is defined
+    pub unanswered : IsUnanswered boot ask → (mark : Mark) (wish : Wish) → IsReached mark wish → Asks mark wish → is_followed (defined (question mark wish most)) ≡ false
+    unanswered none = reached_cases (λ m w. Asks m w → is_followed (defined (question m w most)) ≡ false)
+        (λ scn asked. absurd (subst (IsUnanswered boot) asked none))
+        (λ scn asked. (subst (IsUnanswered boot) asked none) ws (test_of filter))
 
-    -- it is lawful
-    pub some_shape : (mark : Mark) (wish : Wish) → IsReached mark wish → Asks mark wish → (shape : Shape) × IsLawful ask bytes shape
-    some_shape = reached_cases (λ m w. Asks m w → (shape : Shape) × IsLawful ask bytes shape)
-        (λ scn asked. (served_shape (answer_of r scn (test_of filter) most), subst (λ (a : Ask). IsLawful a bytes (served_shape (answer_of r scn (test_of filter) most))) (sym asked) (stream_lawful scn most bytes (at_ask _ asked))))
-        (λ scn asked. (shapes.Only (Behind 0), subst (λ (a : Ask). IsLawful a bytes (shapes.Only (Behind 0))) (sym asked) (start_lawful scn bytes (at_ask _ asked))))
+    module _ (bytes : List ℕ) (is : IsSent r boot ask bytes) (answered : IsAnswered boot ask) where
+      at_ask : (other : Ask) → ask ≡ other → IsSent r boot other bytes
+      at_ask other same = subst (λ (a : Ask). IsSent r boot a bytes) same is
 
-    -- it is read as the reply that is defined
-    pub only_reply : (shape : Shape) (reply : Reply) → IsLawful ask bytes shape → IsReply shape bytes reply → (mark : Mark) (wish : Wish) → IsReached mark wish → Asks mark wish → reply ≡ defined (question mark wish most)
-    only_reply shape reply lawful read = reached_cases (λ m w. Asks m w → reply ≡ defined (question m w most))
-        (λ scn asked. stream_only scn most bytes shape reply (at_ask _ asked) (subst (λ (a : Ask). IsLawful a bytes shape) asked lawful) read)
-        (λ scn asked. start_only scn bytes shape reply (at_ask _ asked) (subst (λ (a : Ask). IsLawful a bytes shape) asked lawful) read ∙ sym (start_is scn))
+      built_at : (other : Ask) → ask ≡ other → IsAnswered boot other
+      built_at other same = subst (IsAnswered boot) same answered
+
+      -- it is lawful
+      pub some_shape : (mark : Mark) (wish : Wish) → IsReached mark wish → Asks mark wish → (shape : Shape) × IsLawful ask bytes shape
+      some_shape = reached_cases (λ m w. Asks m w → (shape : Shape) × IsLawful ask bytes shape)
+          (λ scn asked. (served_shape (answer_of r scn (test_of filter) most), subst (λ (a : Ask). IsLawful a bytes (served_shape (answer_of r scn (test_of filter) most))) (sym asked) (stream_lawful scn most bytes (at_ask _ asked))))
+          (λ scn asked. (shapes.Only (Behind boot.high), subst (λ (a : Ask). IsLawful a bytes (shapes.Only (Behind boot.high))) (sym asked) (start_lawful scn bytes (built_at _ asked) (at_ask _ asked))))
+
+      -- it is read as the reply that is defined
+      pub only_reply : (shape : Shape) (reply : Reply) → IsLawful ask bytes shape → IsReply shape bytes reply → (mark : Mark) (wish : Wish) → IsReached mark wish → Asks mark wish → reply ≡ defined (question mark wish most)
+      only_reply shape reply lawful read = reached_cases (λ m w. Asks m w → reply ≡ defined (question m w most))
+          (λ scn asked. stream_only scn most bytes shape reply (at_ask _ asked) (subst (λ (a : Ask). IsLawful a bytes shape) asked lawful) read)
+          (λ scn asked. start_only scn bytes shape reply (built_at _ asked) (at_ask _ asked) (subst (λ (a : Ask). IsLawful a bytes shape) asked lawful) read ∙ sym (start_is scn (built_at _ asked)))
+
+      -- it is built what is done behind it
+      pub expected_followed : (mark : Mark) (wish : Wish) → IsReached mark wish → Asks mark wish → is_followed (defined (question mark wish most)) ≡ true
+      expected_followed = reached_cases (λ m w. Asks m w → is_followed (defined (question m w most)) ≡ true)
+          (λ scn asked. served_followed (stream ws r.floor r.tail scn (test_of filter) most))
+          (λ scn asked. (built_at _ asked) ws (test_of filter))
+
+      -- who took it is where a script can be
+      pub expected_reached : (mark : Mark) (wish : Wish) → IsReached mark wish → Asks mark wish → (let t = turn mark (defined (question mark wish most)) in IsReached t.mark t.wish)
+      expected_reached = reached_cases (λ m w. Asks m w → (let t = turn m (defined (question m w most)) in IsReached t.mark t.wish))
+          (λ scn asked. served_reached scn (stream ws r.floor r.tail scn (test_of filter) most))
+          (λ scn asked. subst (λ (reply : Reply). (let t = turn (Online scn) reply in IsReached t.mark t.wish)) (sym (start_is scn (built_at _ asked))) tt)
 
   -- the reply that is defined is true of the timeline
   pub expected_is_true : (most : ℕ) (mark : Mark) (wish : Wish) → IsReached mark wish → IsTrueOf ws (test_of filter) (question mark wish most) (defined (question mark wish most))
@@ -162,14 +218,10 @@ module _ (ws : List Span) (r : Relay) (filter : Selection) (stands : StandsFor w
         end_place = stands.tail;
         is = refl;
       })
-      (λ scn. record {
-        boot = new_boot;
-        lawful = record { applied = omega arith; high = omega arith; base_place = refl; applied_place = refl; high_place = refl };
-        is = refl;
-      })
+      (λ scn. record { boot = boot; lawful = booted; is = refl })
 
-  -- who took it is where a script can be
-  pub expected_reached : (most : ℕ) (mark : Mark) (wish : Wish) → IsReached mark wish → (let t = turn mark (defined (question mark wish most)) in IsReached t.mark t.wish)
-  expected_reached most = reached_cases (λ m w. (let t = turn m (defined (question m w most)) in IsReached t.mark t.wish))
-      (λ scn. served_reached scn (stream ws r.floor r.tail scn (test_of filter) most))
-      (λ scn. subst (λ (reply : Reply). (let t = turn (Online scn) reply in IsReached t.mark t.wish)) (sym (start_is scn)) tt)
+-- a consumer makes nothing of a reply that isn't sent
+pub nothing_followed : (ws : List Span) (r : Relay) (boot : Boot) (most : ℕ) (old : MemberState) (ask : Ask) → StandsFor ws r → IsBoot ws boot → IsMember ws old → IsAskOf old.client.filter (question old.client.mark old.client.wish most) ask → IsUnanswered boot ask
+    → followed (follower old) (replied_to ws r boot most old) ≡ None
+nothing_followed ws r boot most old ask stands booted member asked none =
+    followed_none (follower old) (replied_to ws r boot most old) (unanswered ws r boot old.client.filter stands booted most ask none old.client.mark old.client.wish member.reached asked)

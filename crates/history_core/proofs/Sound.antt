@@ -1,7 +1,8 @@
 -- What each line leaves: the defined state and text, and a bus that works.
-use Rattle.std.proofs.Common.{◌≡◌, ℕ, zero, suc, ◌<◌, ◌≤◌, Bool, true, false, cond, List, [], ◌∷◌, ◌++◌, length, get_or, take, ◌==◌, option_map, is_some, Option, Some, None, slice_set, refl, sym, ap, subst, ◌∙◌, arith}
+use Rattle.std.proofs.Common.{◌≡◌, ℕ, zero, suc, ◌<◌, ◌≤◌, Vec, Result, Ok, Err, Bool, true, false, cond, nat_lt, List, [], ◌∷◌, ◌++◌, length, length-append, get_or, take, ◌==◌, option_map, is_some, Option, Some, None, slice_set, refl, sym, ap, subst, ◌∙◌, arith}
+use Rattle.std.specs.Global.{Global}
 use Rattle.std.specs.List.{AllByRecursion, slice_get}
-use Rattle.std.proofs.lemmas.Bool.{eqb-false, lt-leb}
+use Rattle.std.proofs.lemmas.Bool.{eqb-false, lt-leb, le-ltb, lt-ltb, cond-true, cond-false}
 use Rattle.std.proofs.lemmas.List.{length-map, map-set, map-append}
 use Rattle.std.proofs.lemmas.Option.{slice_get-map, slice_get_read}
 use Rattle.bus_types.specs.declared.change.Change.{Change}
@@ -11,8 +12,7 @@ use Rattle.bus_types.specs.Change.{Test}
 use Rattle.bus_types.specs.Window.{Span, bad_scn, cut_fault, window_fault, IsSpan}
 use Rattle.bus_types.specs.Timeline.{Follows, end_from, end_of, windows_between}
 use Rattle.bus_types.specs.Relay.{Relay, StandsFor, new_relay, answer_of, stream}
-use Rattle.bus_types.proofs.Stretches.{Rises, end_from-append, rises_end, timeline_rises}
-use Rattle.bus_types.proofs.Floors.{stands_fresh, stands_committed, stands_answers, parted_at, rises_back}
+use Rattle.bus_types.proofs.Floors.{stands_fresh, stands_committed, stands_answers}
 use Rattle.partition_filter.specs.Selection.{Selection, test_of}
 use Rattle.bus_stores.specs.declared.keeper.Stop.{Stop}
 use Rattle.client_switch.specs.Moves.{question}
@@ -20,10 +20,18 @@ use Rattle.client_switch.specs.Moves.Wish.{NoWish}
 use Rattle.client_switch.proofs.Growing.{good_stays}
 use Rattle.trace_script.specs.declared.line.Line.{Line}
 use Rattle.trace_script.specs.declared.line.Line.TheVariants.{Show}
-use Rattle.history_core.specs.Script.{Follower, State, new_boot, floor, relay_line, stream_line, shown}
-use Rattle.history_core.specs.Steps.{Step, place_of, at_name, with_consumer, most_consumers, most_commits, new_follower, next_window, fed, replied, after_reply, asked, looked_at, relay_step, consumer_step, commit_step, feed_step, stream_step, poll_step, crash_step, stop_step, show_step}
-use Rattle.history_core.specs.Bus.{MemberState, Parts, follower, followers, state_of, IsMember, IsSound, WasCalled, Calls}
-use Rattle.history_core.specs.Acting.{IsWorking, Becomes, Polls, Shows, Publishes}
+use Rattle.bus_stores.specs.Memory.{MemoryStore}
+use Rattle.bus_stores.specs.MemoryLog.{MemoryWindows}
+use Rattle.bus_wire.specs.True.{Boot}
+use Rattle.bootstrap_core.specs.Boot.{BootParts}
+use Rattle.history_core.specs.Script.{Follower, State, floor, relay_line, gap_line, boot_line, stream_line, shown}
+use Rattle.history_core.specs.Steps.{Step, place_of, at_name, with_consumer, most_consumers, most_commits, new_follower, next_window, fed, booted, logged, replied, followed, asked, looked_at, relay_step, consumer_step, commit_step, feed_step, log_step, stream_step, poll_step, crash_step, stop_step, show_step}
+use Rattle.history_core.specs.declared.fault.StepFault.{StepFault}
+use Rattle.history_core.specs.declared.fault.StepFault.TheVariants.{BadLine, WriteFault, NoMemory}
+use Rattle.history_core.specs.Bus.{MemberState, Parts, follower, followers, boot_numbers, state_of, IsMember, IsBooted, IsSound, WasCalled, Calls}
+use Rattle.history_core.specs.Acting.{IsWorking, Becomes, Polls, Shows, Publishes, Acts}
+use Rattle.history_core.specs.Booting.{BootedAt, logged_to, CanLog}
+use Rattle.history_core.proofs.Booted.{place_within, booted_stays}
 
 -- ---- lists
 
@@ -67,13 +75,7 @@ window_follows last w p f s = record {
 
 -- what a relay has published is committed
 pub tail_within : (ws : List Span) (r : Relay) → StandsFor ws r → r.tail ≤ end_of ws
-tail_within ws r h =
-    let parts = parted_at 0 r.tail ws h.tail in
-    let rising = rises_back 0 parts.front parts.back (subst (Rises 0) (sym parts.whole) (timeline_rises 0 ws h.timeline)) in
-    let ends : end_of ws ≡ end_from (end_from 0 parts.front) parts.back = ap end_of (sym parts.whole) ∙ end_from-append 0 parts.front parts.back in
-    let later = rises_end (end_from 0 parts.front) parts.back rising in
-    let front = parts.end in
-    omega arith
+tail_within ws r h = place_within r.tail ws h.timeline h.tail
 
 -- ---- a bus that works
 
@@ -81,11 +83,11 @@ tail_within ws r h =
 pub works_room : (b : Parts) (r : Relay) (bytes windows : ℕ) → IsSound b → b.begun ≡ false → r ≡ new_relay (record { bytes = bytes; windows = windows }) → IsWorking (record b { relay = r })
 works_room b r bytes windows h fresh e =
     let none = h.untouched fresh in
-    record { relay = rw (e, none.0) (stands_fresh [] (record { bytes = bytes; windows = windows }) tt); members = rw none.1 tt }
+    record { few = h.few; relay = rw (e, none.0) (stands_fresh [] (record { bytes = bytes; windows = windows }) tt); boot = h.boot; members = rw none.1 tt }
 
 -- a bus with one more consumer
 pub works_member : (b : Parts) (m : MemberState) (after : List MemberState) → IsSound b → after ≡ b.members ++ m ∷ [] → IsMember b.source m → IsWorking (record b { members = after })
-works_member b m after h e member = record { relay = h.relay; members = rw e (all_push (IsMember b.source) b.members m h.members member) }
+works_member b m after h e member = record { few = h.few; relay = h.relay; boot = h.boot; members = rw e (all_push (IsMember b.source) b.members m h.members member) }
 
 -- a window that is committed leaves a consumer as it is
 member_stays : (ws : List Span) (w : Span) → Follows (end_of ws) w → (m : MemberState) → IsMember ws m → IsMember (ws ++ w ∷ []) m
@@ -99,21 +101,31 @@ member_stays ws w f m h = record {
 }
 
 -- a bus with one more window
-pub works_commit : (b : Parts) (w : Span) (after : List Span) → IsSound b → Follows (end_of b.source) w → after ≡ b.source ++ w ∷ [] → IsWorking (record b { source = after })
-works_commit b w after h f e = record {
+pub works_commit : (b : Parts) (w : Span) (after : List Span) → IsSound b → length b.source < most_commits → Follows (end_of b.source) w → after ≡ b.source ++ w ∷ [] → IsWorking (record b { source = after })
+works_commit b w after h few f e = record {
+  few = rw e (omega (arith, length-append b.source (w ∷ [])));
+  boot = rw e (booted_stays b.source w h.relay.timeline f b.boot h.boot);
   relay = rw e (stands_committed b.source b.relay w h.relay f);
   members = rw e (all_weaker (IsMember b.source) (IsMember (b.source ++ w ∷ [])) b.members (member_stays b.source w f) h.members);
 }
 
 -- a bus whose relay published more
 pub works_feed : (b : Parts) (r : Relay) (windows : List Span) → IsSound b → windows ≡ take (length windows) (windows_between b.relay.tail (end_of b.source) b.source) → Publishes windows b.relay r → IsWorking (record b { relay = r })
-works_feed b r windows h e p = record { relay = p.stands b.source h.relay e; members = h.members }
+works_feed b r windows h e p = record { few = h.few; relay = p.stands b.source h.relay e; boot = h.boot; members = h.members }
+
+-- a bus whose bootstrap moved
+pub works_boot : (b : Parts) (boot : BootParts MemoryWindows MemoryStore) → IsSound b → IsBooted b.source boot → IsWorking (record b { boot = boot })
+works_boot b boot h booted = record { few = h.few; relay = h.relay; boot = booted; members = h.members }
 
 -- a bus with another consumer at a place
 works_set : (b : Parts) (i : ℕ) (m : MemberState) → IsSound b → IsMember b.source m → IsWorking (record b { members = slice_set b.members i m })
-works_set b i m h member = record { relay = h.relay; members = all_set (IsMember b.source) b.members i m h.members member }
+works_set b i m h member = record { few = h.few; relay = h.relay; boot = h.boot; members = all_set (IsMember b.source) b.members i m h.members member }
 
 -- ---- lines
+
+-- a line did what is defined for it, and left a bus that works
+abbrev pub Did : Step → Parts → List ℕ → Type 0
+Did defined new text = (defined ≡ Some (state_of new, text)) × IsWorking new
 
 -- a relay's room
 pub roomed : (s next : State) (bytes windows : ℕ) (text : List ℕ) → s.begun ≡ false → next ≡ record s { room = record { bytes = bytes; windows = windows } } → text ≡ [] → relay_step s bytes windows ≡ Some (next, text)
@@ -127,8 +139,8 @@ roomed_state b r bytes windows h fresh e =
     let within = tail_within b.source b.relay h.relay in
     let ends : end_of b.source ≡ 0 = ap end_of (h.untouched fresh).0 in
     let none : 0 ≡ b.relay.tail = omega arith in
-    (λ i. record { begun = b.begun; windows = b.source; room = (e i).room; end = (e i).tail; boot = new_boot; consumers = followers b.members })
-    ∙ (λ i. record { begun = b.begun; windows = b.source; room = record { bytes = bytes; windows = windows }; end = none i; boot = new_boot; consumers = followers b.members })
+    (λ i. record { begun = b.begun; windows = b.source; room = (e i).room; end = (e i).tail; boot = boot_numbers b.boot; consumers = followers b.members })
+    ∙ (λ i. record { begun = b.begun; windows = b.source; room = record { bytes = bytes; windows = windows }; end = none i; boot = boot_numbers b.boot; consumers = followers b.members })
 
 -- a new consumer
 pub declared : (b : Parts) (name : List ℕ) (filter : Selection) (m : MemberState) (after : List MemberState) (text : List ℕ) → is_some (place_of name (followers b.members)) ≡ false → length b.members < most_consumers → follower m ≡ new_follower name filter → after ≡ b.members ++ m ∷ [] → text ≡ [] → consumer_step (state_of b) name filter ≡ Some (state_of (record b { members = after }), text)
@@ -157,7 +169,7 @@ fed_on s next count text e t = λ i. Some (sym e i, (ap (λ (n : State). relay_l
 pub fed_state : (b : Parts) (r : Relay) (count : ℕ) (windows : List Span) → windows ≡ take count (windows_between b.relay.tail (end_of b.source) b.source) → Publishes windows b.relay r → state_of (record b { relay = r }) ≡ record (state_of b) { end = fed (state_of b) count }
 fed_state b r count windows e p =
     let end : r.tail ≡ fed (state_of b) count = p.tail ∙ ap (end_from b.relay.tail) e in
-    λ i. record { begun = b.begun; windows = b.source; room = p.room i; end = end i; boot = new_boot; consumers = followers b.members }
+    λ i. record { begun = b.begun; windows = b.source; room = p.room i; end = end i; boot = boot_numbers b.boot; consumers = followers b.members }
 
 -- an ask of no consumer
 pub streamed : (b : Parts) (scn : ℕ) (test : Test) (most : ℕ) (text : List ℕ) → StandsFor b.source b.relay → text ≡ stream_line (answer_of b.relay scn test most) → stream_step (state_of b) scn test most ≡ Some (state_of b, text)
@@ -166,10 +178,42 @@ streamed b scn test most text h t =
     let line = ap stream_line (stands_answers b.source b.relay scn test most h ∙ (λ i. stream b.source (h.floor i) b.relay.tail scn test most)) in
     λ i. Some (state_of b, sym (t ∙ line) i)
 
+-- a line that moves the bootstrap
+pub moved_on : (b : Parts) (n : Boot) (boot : BootParts MemoryWindows MemoryStore) (text : List ℕ) → IsSound b → BootedAt b.source n boot → text ≡ boot_line (boot_numbers boot) → Did (Some (booted (state_of b) n)) (record b { boot = boot }) text
+moved_on b n boot text h at t = (
+  (λ i. Some (record (state_of b) { boot = sym at.is i }, (ap boot_line (sym at.is) ∙ sym t) i)),
+  works_boot b boot h at.booted,
+)
+
+-- the bootstrap logs what the relay keeps
+pub can_log : (b : Parts) → IsSound b → b.relay.floor ≤ (boot_numbers b.boot).high → CanLog b.source b.relay b.boot
+can_log b h reach = record { few = h.few; stands = h.relay; booted = h.boot; reach = reach }
+
+pub logged_on : (b : Parts) (count : ℕ) (boot : BootParts MemoryWindows MemoryStore) (text : List ℕ) → IsSound b → b.relay.floor ≤ (boot_numbers b.boot).high → BootedAt b.source (logged_to b.source b.relay (boot_numbers b.boot) count) boot → text ≡ boot_line (boot_numbers boot)
+    → Did (log_step (state_of b) count) (record b { boot = boot }) text
+unfolding log_step
+logged_on b count boot text h reach at t =
+    let s : State = state_of b in
+    let low = le-ltb (boot_numbers b.boot).high (floor s) (omega (arith, h.relay.floor, reach)) in
+    let did = moved_on b (logged_to b.source b.relay (boot_numbers b.boot) count) boot text h at t in
+    (ap Some (cond-false (nat_lt (boot_numbers b.boot).high (floor s)) (s, gap_line (floor s)) (booted s (record s.boot { high = logged s count })) low) ∙ did.0, did.1)
+
+-- or says what it missed
+pub gap_said : (b : Parts) (count : ℕ) (text : List ℕ) → IsSound b → (boot_numbers b.boot).high < b.relay.floor → text ≡ gap_line b.relay.floor → Did (log_step (state_of b) count) b text
+unfolding log_step
+gap_said b count text h below t =
+    let s : State = state_of b in
+    let low = lt-ltb (boot_numbers b.boot).high (floor s) (omega (arith, h.relay.floor, below)) in (
+      ap Some (cond-true (nat_lt (boot_numbers b.boot).high (floor s)) (s, gap_line (floor s)) (booted s (record s.boot { high = logged s count })) low) ∙ (λ i. Some (s, (ap gap_line (sym h.relay.floor) ∙ sym t) i)),
+      record { few = h.few; relay = h.relay; boot = h.boot; members = h.members },
+    )
+
 -- a bus of which nothing has come
-pub sound_new : (source : List Span) (relay : Relay) (members : List MemberState) (bytes windows : ℕ) → source ≡ [] → relay ≡ new_relay (record { bytes = bytes; windows = windows }) → members ≡ [] → IsSound (record { begun = false; source = source; relay = relay; members = members })
-sound_new source relay members bytes windows s r m = record {
+pub sound_new : (b : Parts) (bytes windows : ℕ) → b.source ≡ [] → b.relay ≡ new_relay (record { bytes = bytes; windows = windows }) → IsBooted [] b.boot → b.members ≡ [] → IsSound b
+sound_new b bytes windows s r boot m = record {
+  few = rw s (omega arith);
   relay = rw (s, r) (stands_fresh [] (record { bytes = bytes; windows = windows }) tt);
+  boot = rw s boot;
   members = rw m tt;
   untouched = λ e. (s, m);
 }
@@ -193,10 +237,6 @@ found_at ms seen name said i m s n place within is =
 pub member_at : (b : Parts) (name : List ℕ) (i : ℕ) (m : MemberState) → IsSound b → IsFoundAt b.members name i m → IsMember b.source m
 member_at b name i m h f = all_at (IsMember b.source) b.members i m f.at h.members
 
--- a line did what is defined for it, and left a bus that works
-abbrev Did : Step → Parts → List ℕ → Type 0
-Did defined new text = (defined ≡ Some (state_of new, text)) × IsWorking new
-
 -- the consumer there is another one now
 changed_at : (b : Parts) (i : ℕ) (name : List ℕ) (act : ℕ → Follower → State × List ℕ) (m n : MemberState) (next : Follower) (text : List ℕ) → IsSound b → IsFoundAt b.members name i m → act i (follower m) ≡ (with_consumer (state_of b) i next, text) → Becomes b.source next n → Did (at_name (state_of b) name act) (record b { members = slice_set b.members i n }) text
 changed_at b i name act m n next text h f is becomes =
@@ -219,13 +259,36 @@ armed b i name stop m n text h f t becomes =
     let next : Follower = record (follower m) { armed = Some stop } in
     changed_at b i name (λ j c. (with_consumer (state_of b) j (record c { armed = Some stop }), [])) m n next text h f (λ j. (with_consumer (state_of b) i next, sym t j)) becomes
 
-pub polled : (b : Parts) (i : ℕ) (name : List ℕ) (most : ℕ) (m n : MemberState) (text : List ℕ) → IsSound b → IsFoundAt b.members name i m → Polls b.source b.relay most m n text → Did (poll_step (state_of b) name most) (record b { members = slice_set b.members i n }) text
+-- an element that is set at its own place
+same_set : (ms : List MemberState) (i : ℕ) (m : MemberState) → slice_get ms i ≡ Some m → slice_set ms i m ≡ ms
+same_set [] i m at = refl
+same_set (x ∷ ms) zero m at = (let same : x ≡ m = cc in ap (λ (y : MemberState). y ∷ ms) (sym same))
+same_set (x ∷ ms) (suc i) m at = ap (λ (ys : List MemberState). x ∷ ys) (same_set ms i m at)
+
+pub polled : (b : Parts) (i : ℕ) (name : List ℕ) (most : ℕ) (m n : MemberState) (result : Result (Vec ℕ Global) StepFault) → IsSound b → IsFoundAt b.members name i m → Polls b.source b.relay (boot_numbers b.boot) most result m n
+    → Acts result (poll_step (state_of b) name most) b (record b { members = slice_set b.members i n })
 unfolding poll_step
-polled b i name most m n text h f p =
+polled b i name most m n (Ok text) h f p =
+    let place = f.place in
+    let found : slice_get (followers b.members) i ≡ Some (follower m) = slice_get-map follower b.members i ∙ ap (option_map follower) f.at in
     let floors = h.relay.floor in
-    let is : asked (state_of b) (follower m) most ≡ (follower n, text) =
-    sym (p.turn ∙ (λ j. after_reply (follower m) (replied b.source (floors j) b.relay.tail new_boot (test_of m.client.filter) (question m.client.mark m.client.wish most)))) in
-    changed_at b i name (λ j c. (with_consumer (state_of b) j (asked (state_of b) c most).0, (asked (state_of b) c most).1)) m n (follower n) text h f (ap (λ (a : Follower × List ℕ). (with_consumer (state_of b) i a.0, a.1)) is) (record { follows = refl; member = p.member })
+    let is : asked (state_of b) (follower m) most ≡ Some (follower n, text.items) =
+    (λ j. followed (follower m) (replied b.source (sym floors j) b.relay.tail (boot_numbers b.boot) (test_of m.client.filter) (question m.client.mark m.client.wish most))) ∙ p.0 in
+    let set : slice_set (followers b.members) i (follower n) ≡ followers (slice_set b.members i n) = sym (map-set follower b.members i n) in (
+      rw (← place, found) (ap (option_map (λ (a : Follower × List ℕ). (with_consumer (state_of b) i a.0, a.1))) is ∙ (λ j. Some (record (state_of b) { consumers = set j }, text.items))),
+      works_set b i n h p.1,
+    )
+polled b i name most m n (Err BadLine) h f p =
+    let place = f.place in
+    let found : slice_get (followers b.members) i ≡ Some (follower m) = slice_get-map follower b.members i ∙ ap (option_map follower) f.at in
+    let floors = h.relay.floor in
+    let is : asked (state_of b) (follower m) most ≡ None =
+    (λ j. followed (follower m) (replied b.source (sym floors j) b.relay.tail (boot_numbers b.boot) (test_of m.client.filter) (question m.client.mark m.client.wish most))) ∙ p.0 in (
+      rw (← place, found) (ap (option_map (λ (a : Follower × List ℕ). (with_consumer (state_of b) i a.0, a.1))) is),
+      ap (λ (ms : List MemberState). record b { members = ms }) (ap (slice_set b.members i) p.1 ∙ same_set b.members i m f.at),
+    )
+polled b i name most m n (Err (WriteFault count)) h f p = absurd p
+polled b i name most m n (Err NoMemory) h f p = tt
 
 pub seen : (b : Parts) (i : ℕ) (name : List ℕ) (m n : MemberState) (text : List ℕ) → IsSound b → IsFoundAt b.members name i m → Shows b.source m n text → Did (show_step (state_of b) name) (record b { members = slice_set b.members i n }) text
 unfolding show_step

@@ -5,3 +5,4 @@ pub mod Bus
 pub mod Acting
 pub mod Worked
 pub mod Polling
+pub mod Booting

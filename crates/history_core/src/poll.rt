@@ -1,6 +1,8 @@
 ghost use Rattle.std.specs.Prelude.{◌≡◌, ℕ, [], List, IsSome, IfSome, IfOk, OnOk};
 ghost use Rattle.bus_types.specs.Window.{Span};
-ghost use Rattle.bus_types.specs.Relay.{Relay, StandsFor};
+ghost use Rattle.bus_types.specs.Relay.{Relay, StandsFor, answer_of};
+ghost use Rattle.partition_filter.specs.Selection.{test_of};
+ghost use Rattle.event_codec.specs.Reply.{reply_bytes};
 ghost use Rattle.checkpoint.specs.declared.mark.Mark.{Mark};
 ghost use Rattle.bus_stores.specs.Memory.{last_mark};
 ghost use Rattle.client_switch.specs.Client.{IsAskOf, IsStored, asks};
@@ -8,11 +10,12 @@ ghost use Rattle.history_core.specs.Script.{stopped_line};
 ghost use Rattle.bus_stores.specs.Memory.{told_by};
 ghost use Rattle.bus_stores.specs.MemoryLog.{log_of};
 ghost use Rattle.bus_wire.specs.Questions.{Reply};
+ghost use Rattle.bus_wire.specs.True.{Boot};
 ghost use Rattle.bootstrap_core.specs.Boot.{told, Stands};
 ghost use Rattle.history_core.specs.Steps.{is_followed};
 ghost use Rattle.history_core.specs.Bus.{boot_numbers, IsMember};
 ghost use Rattle.history_core.specs.Acting.{IsReopened, Polls};
-ghost use Rattle.history_core.specs.Polling.{Comes};
+ghost use Rattle.history_core.specs.Polling.{Replies, Comes, TookReply};
 
 use crate::boot::MemoryBoot;
 use crate::fault::StepFault;
@@ -24,6 +27,7 @@ use bus_wire::Ask;
 use client_switch::{AskRefusal, TakeFault};
 use dispatcher::NoCallbacks;
 use event_codec::{Answer, answer_bytes};
+use partition_filter::Filter;
 use plain_buffer::PlainBuffer;
 use relay_core::relay_answer;
 use std::alloc::Global;
@@ -38,27 +42,53 @@ fn is_followed(answer: &Answer) -> bool
     )
 }
 
+// The bytes of the relay's reply to who asks for windows.
+fn streamed(
+    alloc: Global,
+    relay: &PlainBuffer,
+    scn: u64,
+    filter: &Filter,
+    max: u32,
+) -> Result<Vec<u8>, NoMemory>
+    ensures { IfOk result (λ reply. reply.items ≡ reply_bytes (answer_of relay.now scn (test_of filter.now) max)) }
+{
+    let mut reply = Vec::new(alloc);
+    relay_answer(alloc, relay, scn, filter, max, &mut reply)?;
+    Ok(reply)
+}
+
+// The bytes of the bootstrap's reply to who asks how to start again, or nothing where it isn't built yet what a consumer
+// does behind it.
+fn started(
+    alloc: Global,
+    boot: &MemoryBoot,
+    since: u64,
+    fresh: bool,
+) -> Result<Option<Vec<u8>>, NoMemory>
+    ensures { (relay : Relay) → IfOk result (Replies relay (boot_numbers boot.now) (Ask.Start since fresh)) }
+{
+    let answer = boot.start(since, fresh);
+    if !is_followed(&answer) {
+        return Ok(None);
+    }
+    Ok(Some(Vec::from_slice(alloc, &answer_bytes(&answer))?))
+}
+
 // The bytes of the reply to an ask, or nothing where it isn't built yet what a consumer does behind it.
 fn answer(
     alloc: Global,
     relay: &PlainBuffer,
     boot: &MemoryBoot,
     ask: &Ask,
-) -> Result<Option<Vec<u8>>, NoMemory> {
-    let mut reply = Vec::new(alloc);
+) -> Result<Option<Vec<u8>>, NoMemory>
+    ensures { IfOk result (Replies relay.now (boot_numbers boot.now) ask.now) }
+{
     match ask {
         Ask::Stream { scn, filter, max } => {
-            relay_answer(alloc, relay, *scn, filter, *max, &mut reply)?;
+            Ok(Some(streamed(alloc, relay, *scn, filter, *max)?))
         }
-        Ask::Start { since, fresh } => {
-            let answer = boot.start(*since, *fresh);
-            if !is_followed(&answer) {
-                return Ok(None);
-            }
-            reply.extend_from_slice(&answer_bytes(&answer))?;
-        }
+        Ask::Start { since, fresh } => started(alloc, boot, *since, *fresh),
     }
-    Ok(Some(reply))
 }
 
 impl Member {
@@ -96,8 +126,8 @@ impl Member {
 
     // Lets its client take the reply to what it asked.
     fn follow(&mut self, alloc: Global, ask: &Ask, reply: &[u8]) -> Result<Vec<u8>, NoMemory>
-        requires { (ws : List Span) × (r : Relay) × (most : ℕ) × Comes ws r most self.old ask.now reply.now }
-        ensures { IfOk result (λ text. (ws : List Span) (r : Relay) (most : ℕ) → Comes ws r most self.old ask.now reply.now → Polls ws r most self.old self.new text.items) }
+        requires { (ws : List Span) × (r : Relay) × (boot : Boot) × (most : ℕ) × Comes ws r boot most self.old ask.now reply.now }
+        ensures { IfOk result (λ text. (ws : List Span) (r : Relay) (boot : Boot) (most : ℕ) → Comes ws r boot most self.old ask.now reply.now → TookReply ws r boot most self.old self.new text.items) }
     {
         let armed = self.keeper.armed();
         match self

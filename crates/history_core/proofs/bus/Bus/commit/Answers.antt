@@ -6,7 +6,7 @@ use Rattle.history_core.proofs.bus.Bus.commit.Goals as goal
 
 pub returns : goal.returns
 returns c =
-    let b : Parts = record { begun = c.self.inside.begun; source = c.self.inside.source; relay = c.self.inside.relay; members = c.self.inside.members.items } in
+    let b : Parts = record { begun = c.self.inside.begun; source = c.self.inside.source; relay = c.self.inside.relay; boot = c.self.inside.boot; members = c.self.inside.members.items } in
     let h : IsSound b = subst IsSound (sym c.self.view_is) c.requires in
     let w = c.in-Ok.window in
     let made = c.in-Ok.ensures in
@@ -16,5 +16,5 @@ returns c =
     let follows = window_follows _ w (ap (λ (v : Span). v.prev) made.ok ∙ c.last.ensures.value) made.none c.size-within.ensures.fits in
     rw (← c.self.view_is) (
       committed (state_of b) c.args.scn c.last.result c.args.changes.now w after c.new-2.result.items c.last.ensures.value (made.ok ∙ (λ i. record { scn = c.args.scn; prev = c.last.result; changes = copied i })) made.none (omega arith) appended c.new-2.ensures.items,
-      works_commit b w after h follows appended,
+      works_commit b w after h (omega arith) follows appended,
     )

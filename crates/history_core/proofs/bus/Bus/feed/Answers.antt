@@ -8,14 +8,14 @@ use Rattle.history_core.proofs.bus.Bus.feed.Goals as goal
 
 pub publish-requires : goal.publish-requires
 publish-requires c =
-    let b : Parts = record { begun = c.self.inside.begun; source = c.self.inside.source; relay = c.self.inside.relay; members = c.self.inside.members.items } in
+    let b : Parts = record { begun = c.self.inside.begun; source = c.self.inside.source; relay = c.self.inside.relay; boot = c.self.inside.boot; members = c.self.inside.members.items } in
     let h : IsSound b = subst IsSound (sym c.self.view_is) c.requires in
     let windows = c.first-next.ensures ∙ ap (take c.args.count) c.windows_after.ensures ∙ (λ i. take c.args.count (windows_between (c.tail.ensures.value i) (end_of b.source) b.source)) in
     next_follow b.source b.relay c.args.count c.first-next.result.now h.relay windows
 
 pub returns : goal.returns
 returns c =
-    let b : Parts = record { begun = c.self.inside.begun; source = c.self.inside.source; relay = c.self.inside.relay; members = c.self.inside.members.items } in
+    let b : Parts = record { begun = c.self.inside.begun; source = c.self.inside.source; relay = c.self.inside.relay; boot = c.self.inside.boot; members = c.self.inside.members.items } in
     let h : IsSound b = subst IsSound (sym c.self.view_is) c.requires in
     let r = c.publish.new.relay in
     let windows = c.first-next.ensures ∙ ap (take c.args.count) c.windows_after.ensures ∙ (λ i. take c.args.count (windows_between (c.tail.ensures.value i) (end_of b.source) b.source)) in

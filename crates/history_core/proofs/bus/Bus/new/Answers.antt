@@ -1,5 +1,9 @@
+use Rattle.std.proofs.Common.{false}
+use Rattle.history_core.specs.Bus.{Parts}
 use Rattle.history_core.proofs.Sound.{sound_new}
 use Rattle.history_core.proofs.bus.Bus.new.Goals as goal
 
 pub returns-clause-sound : goal.returns-clause-sound
-returns-clause-sound c = sound_new c.new.result c.in_ok-new.field-0 c.new-3.result.items c.args.bytes c.args.windows c.new.ensures c.in_ok-new.ensures c.new-3.ensures.items
+returns-clause-sound c =
+    let b : Parts = record { begun = false; source = c.new.result; relay = c.in_ok-new.field-0; boot = c.in_ok-new_boot.field-0; members = c.new-3.result.items } in
+    sound_new b c.args.bytes c.args.windows c.new.ensures c.in_ok-new.ensures c.in_ok-new_boot.ensures.booted c.new-3.ensures.items

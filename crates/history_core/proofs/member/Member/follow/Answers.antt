@@ -7,16 +7,16 @@ use Rattle.history_core.proofs.member.Member.follow.Goals as goal
 pub stopped-requires-clause-stored : goal.stopped-requires-clause-stored
 stopped-requires-clause-stored c =
     let old : MemberState = record { name = c.self.inside.name; client = c.self.inside.client; store = c.self.inside.keeper; shows = c.self.inside.shows } in
-    let comes = subst (λ (o : MemberState). Comes c.requires.0 c.requires.1 c.requires.2 o c.args.ask.now c.args.reply.now) (sym c.self.view_is) c.requires.3 in
-    stopped_stored c.requires.0 c.requires.1 c.requires.2 old c.args.ask.now c.args.reply.now comes c.take.new.self c.take.new.keeper
+    let comes = subst (λ (o : MemberState). Comes c.requires.0 c.requires.1 c.requires.2 c.requires.3 o c.args.ask.now c.args.reply.now) (sym c.self.view_is) c.requires.4 in
+    stopped_stored c.requires.0 c.requires.1 c.requires.2 c.requires.3 old c.args.ask.now c.args.reply.now comes c.take.new.self c.take.new.keeper
     (record { counts = c.take.ensures.counts; keeps = c.take.ensures.keeps; good = c.take.ensures.good })
     (rw c.in-Err-StoreFault.field-0-is at c.in-Err-StoreFault.ensures.takes)
 
 pub unreachable-requires : goal.unreachable-requires
 unreachable-requires c =
     let old : MemberState = record { name = c.self.inside.name; client = c.self.inside.client; store = c.self.inside.keeper; shows = c.self.inside.shows } in
-    let comes = subst (λ (o : MemberState). Comes c.requires.0 c.requires.1 c.requires.2 o c.args.ask.now c.args.reply.now) (sym c.self.view_is) c.requires.3 in
-    let may = no_fault c.requires.0 c.requires.1 c.requires.2 old c.args.ask.now c.args.reply.now c.take.new.self c.take.new.keeper c.take.result c.in-Err-Halted.field-0 comes c.in-Err-Halted.is c.take.ensures.halted c.take.ensures.takes c.take.ensures.refusals in
+    let comes = subst (λ (o : MemberState). Comes c.requires.0 c.requires.1 c.requires.2 c.requires.3 o c.args.ask.now c.args.reply.now) (sym c.self.view_is) c.requires.4 in
+    let may = no_fault c.requires.0 c.requires.1 c.requires.2 c.requires.3 old c.args.ask.now c.args.reply.now c.take.new.self c.take.new.keeper c.take.result c.in-Err-Halted.field-0 comes c.in-Err-Halted.is c.take.ensures.halted c.take.ensures.takes c.take.ensures.refusals in
     search rules
 
 pub returns-in-Ok : goal.returns-in-Ok
