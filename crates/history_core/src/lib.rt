@@ -21,7 +21,7 @@ pub use rows::{
     worked_script_of_many_windows, worked_scripts, worked_scripts_of_a_bootstrap,
     worked_scripts_of_a_relay, worked_scripts_of_stops, worked_scripts_of_streams,
 };
-pub use worked::worked_steps;
+pub use worked::{worked_steps, worked_steps_of_a_bootstrap};
 
 #[cfg(test)]
 mod tests;

@@ -1,8 +1,8 @@
-ghost use Rattle.std.specs.Prelude.{◌≡◌, [], ◌∷◌, codes, Some};
+ghost use Rattle.std.specs.Prelude.{◌≡◌, [], ◌∷◌, codes, Some, None};
 ghost use Rattle.bus_stores.specs.declared.keeper.Stop.TheVariants.{Before, After};
 ghost use Rattle.partition_filter.specs.Selection.{All};
 ghost use Rattle.history_core.specs.Script.{start};
-ghost use Rattle.history_core.specs.Steps.{relay_step, consumer_step, commit_step, feed_step, stop_step, poll_step, show_step, crash_step};
+ghost use Rattle.history_core.specs.Steps.{relay_step, consumer_step, commit_step, feed_step, log_step, apply_step, trim_step, restart_step, stop_step, poll_step, show_step, crash_step};
 ghost use Rattle.history_core.specs.Worked.{printed, put};
 
 /// What some lines do, by computation from the definitions alone.
@@ -21,4 +21,21 @@ pub fn worked_steps()
         ∷ (λ s. poll_step s (codes "c") 1000) ∷ (λ s. crash_step s (codes "c")) ∷ (λ s. poll_step s (codes "c") 1000)
         ∷ (λ s. poll_step s (codes "c") 1000) ∷ (λ s. poll_step s (codes "c") 1000) ∷ [])
         ≡ Some (codes "relay 10 30\nnotfound 10\nnotfound 10\nbehind 0\nnotfound 10\n") }
+{}
+
+/// What some lines of a bootstrap do, by computation from the definitions alone.
+pub fn worked_steps_of_a_bootstrap()
+    ensures moves { printed start ((λ s. commit_step s 10 (put 1 ∷ [])) ∷ (λ s. commit_step s 20 (put 1 ∷ [])) ∷ (λ s. feed_step s 2)
+        ∷ (λ s. log_step s 2) ∷ (λ s. apply_step s 1) ∷ (λ s. restart_step s) ∷ (λ s. trim_step s 15) ∷ (λ s. trim_step s 99)
+        ∷ (λ s. apply_step s 5) ∷ [])
+        ≡ Some (codes "relay 0 20\nboot 0 0 20\nboot 0 10 20\nboot 0 10 20\nboot 10 10 20\nboot 10 10 20\nboot 10 20 20\n") }
+    ensures gap { printed start ((λ s. relay_step s 1048576 1) ∷ (λ s. consumer_step s (codes "c") All) ∷ (λ s. commit_step s 50 (put 1 ∷ []))
+        ∷ (λ s. feed_step s 1) ∷ (λ s. log_step s 1) ∷ (λ s. poll_step s (codes "c") 1000) ∷ (λ s. commit_step s 60 (put 1 ∷ []))
+        ∷ (λ s. commit_step s 70 (put 2 ∷ [])) ∷ (λ s. feed_step s 2) ∷ (λ s. poll_step s (codes "c") 1000)
+        ∷ (λ s. poll_step s (codes "c") 1000) ∷ (λ s. log_step s 1) ∷ (λ s. poll_step s (codes "c") 1000) ∷ (λ s. show_step s (codes "c")) ∷ [])
+        ≡ Some (codes "relay 0 50\nboot 0 0 50\nserved 1 41 online 50\nrelay 60 70\nnotfound 60\nbehind 50\ngap 60\nnotfound 60\nshow c online 50 1\n0/1=aa\n") }
+    ensures anew { printed start ((λ s. relay_step s 1048576 1) ∷ (λ s. consumer_step s (codes "c") All) ∷ (λ s. commit_step s 10 (put 1 ∷ []))
+        ∷ (λ s. feed_step s 1) ∷ (λ s. log_step s 1) ∷ (λ s. commit_step s 20 (put 2 ∷ [])) ∷ (λ s. feed_step s 1) ∷ (λ s. log_step s 1)
+        ∷ (λ s. poll_step s (codes "c") 1000) ∷ (λ s. poll_step s (codes "c") 1000) ∷ [])
+        ≡ None }
 {}
