@@ -1,28 +1,22 @@
 -- A bootstrap in memory that is opened, applies and trims: what it is then, and that nothing but want of memory comes.
-use Rattle.std.proofs.Common.{◌≡◌, ℕ, ◌-◌, ◌<◌, ◌≤◌, min, inl, inr, true, false, true≢false, List, [], ◌∷◌, length, take, Option, Some, None, Result, Ok, Err, refl, sym, ap, subst, ◌∙◌, arith}
-use Rattle.std.specs.Prelude.{◌↔◌, IsErrOf}
-use Rattle.bus_types.specs.declared.limits.TheConstants.{MAX_SCN}
+use Rattle.std.proofs.Common.{◌≡◌, ℕ, ◌-◌, ◌≤◌, min, inl, inr, false, true≢false, List, [], take, Option, Some, None, Ok, refl, sym, ap, subst, ◌∙◌, arith}
 use Rattle.bus_types.specs.Window.{Span}
 use Rattle.bus_types.specs.Timeline.{IsTimeline, end_from, windows_between}
 use Rattle.bus_types.specs.Relay.{Relay}
 use Rattle.bus_types.proofs.Stretches.{between-between}
 use Rattle.bus_types.proofs.Floors.{between-after}
-use Rattle.bus_stores.specs.declared.keeper.Stop.{Stop}
-use Rattle.bus_stores.specs.declared.keeper.Stop.TheVariants.{Before, After}
-use Rattle.bus_stores.specs.Keeper.{KeeperState, Move, Stops, SameStore, Meets, stops_after}
+use Rattle.bus_stores.specs.Keeper.{KeeperState, Move, SameStore, Meets, stops_after}
 use Rattle.bus_stores.specs.Log.{LogState}
 use Rattle.bus_stores.specs.Taking.{LeavesBy}
 use Rattle.bus_stores.specs.Memory.{MemoryStore, new_store, no_fails, told_by}
 use Rattle.bus_stores.specs.MemoryLog.{MemoryWindows, new_windows, log_of}
-use Rattle.bus_stores.specs.declared.boot_fault.BootFault.{BootFault}
-use Rattle.bus_stores.specs.declared.boot_fault.BootFault.TheVariants as faults
 use Rattle.bus_wire.specs.True.{Boot}
 use Rattle.bootstrap_core.specs.declared.fault.BootOpen.{BootOpen}
 use Rattle.bootstrap_core.specs.declared.fault.BootOpen.TheVariants as opens
 use Rattle.bootstrap_core.specs.Boot.{BootState, told, Stands, StandsForBoot}
 use Rattle.bootstrap_core.specs.Opening.{IsOpened, OpensNot}
 use Rattle.bootstrap_core.proofs.Opened.{stands_again}
-use Rattle.bootstrap_core.specs.Moving.{AppliesNext, AppliesBoot, Trims}
+use Rattle.bootstrap_core.specs.Moving.{AppliesNext, Trims}
 use Rattle.history_core.specs.Bus.{boot_numbers, IsBooted}
 use Rattle.history_core.specs.Booting.{MemoryParts, AreParts, BootedAt, end_after, logged_to, applied_to, trimmed_to, CanLog}
 use Rattle.history_core.proofs.Booted.{stops_of, log_kept, keeper_kept}
@@ -125,9 +119,6 @@ log_can ws r n old new can at = record {
 abbrev pub LogsRest : Relay → ℕ → ℕ → MemoryParts → MemoryParts → Type 0
 LogsRest r count left old new = (ws : List Span) → CanLog ws r old → CanLog ws r new × (logged_to ws r (boot_numbers new) left ≡ logged_to ws r (boot_numbers old) count)
 
-pub logs_begun : (r : Relay) (count : ℕ) (b : MemoryParts) → LogsRest r count count b b
-logs_begun r count b ws can = (can, refl)
-
 pub logs_more : (r : Relay) (count left n : ℕ) (old mid new : MemoryParts) → n ≤ left → LogsRest r count left old mid → ((ws : List Span) → CanLog ws r mid → BootedAt ws (logged_to ws r (boot_numbers mid) n) new) → LogsRest r count (left - n) old new
 logs_more r count left n old mid new few rest logs ws can =
     let before = rest ws can in
@@ -136,18 +127,9 @@ logs_more r count left n old mid new few rest logs ws can =
     let more : logged_to ws r (logged_to ws r m n) (left - n) ≡ logged_to ws r m left = ap (λ (h : ℕ). record m { high = h }) (end_on ws m.high r.tail n left can.stands.timeline few) in
     (log_can ws r n mid new before.0 at, ap (λ (b : Boot). logged_to ws r b (left - n)) at.is ∙ more ∙ before.1)
 
-pub logs_done : (r : Relay) (count left : ℕ) (old new : MemoryParts) → left ≤ 0 → LogsRest r count left old new → (ws : List Span) → CanLog ws r old → BootedAt ws (logged_to ws r (boot_numbers old) count) new
-logs_done r count left old new none rest ws can =
-    let all = rest ws can in
-    let zero_left : 0 ≡ left = omega arith in
-    record { booted = all.0.booted; is = ap (logged_to ws r (boot_numbers new)) zero_left ∙ all.1 }
-
 -- what is still to be applied completes the whole
 abbrev pub AppliesRest : ℕ → ℕ → MemoryParts → MemoryParts → Type 0
 AppliesRest count left old new = (ws : List Span) → IsTimeline ws → IsBooted ws old → IsBooted ws new × (applied_to ws (boot_numbers new) left ≡ applied_to ws (boot_numbers old) count)
-
-pub applies_begun : (count : ℕ) (b : MemoryParts) → AppliesRest count count b b
-applies_begun count b ws t can = (can, refl)
 
 pub applies_more : (count left n : ℕ) (old mid new : MemoryParts) → n ≤ left → AppliesRest count left old mid → ((ws : List Span) → IsTimeline ws → IsBooted ws mid → BootedAt ws (applied_to ws (boot_numbers mid) n) new) → AppliesRest count (left - n) old new
 applies_more count left n old mid new few rest applies ws t can =
@@ -156,12 +138,6 @@ applies_more count left n old mid new few rest applies ws t can =
     let m : Boot = boot_numbers mid in
     let more : applied_to ws (applied_to ws m n) (left - n) ≡ applied_to ws m left = ap (λ (a : ℕ). record m { applied = a }) (end_on ws m.applied m.high n left t few) in
     (at.booted, ap (λ (b : Boot). applied_to ws b (left - n)) at.is ∙ more ∙ before.1)
-
-pub applies_done : (count left : ℕ) (old new : MemoryParts) → left ≤ 0 → AppliesRest count left old new → (ws : List Span) → IsTimeline ws → IsBooted ws old → BootedAt ws (applied_to ws (boot_numbers old) count) new
-applies_done count left old new none rest ws t can =
-    let all = rest ws t can in
-    let zero_left : 0 ≡ left = omega arith in
-    record { booted = all.0; is = ap (applied_to ws (boot_numbers new)) zero_left ∙ all.1 }
 
 -- where no window is left, any number of them is logged or applied
 pub logs_still : (ws : List Span) (r : Relay) (n : ℕ) (b : MemoryParts) → r.tail ≤ (boot_numbers b).high → IsBooted ws b → BootedAt ws (logged_to ws r (boot_numbers b) n) b

@@ -1,5 +1,5 @@
 -- A bootstrap that stands for a timeline, and for a longer one.
-use Rattle.std.proofs.Common.{◌≡◌, ℕ, ◌<◌, ◌≤◌, true, ◌==◌, Some, None, true≢false, List, [], ◌∷◌, ◌++◌, refl, sym, ap, subst, ◌∙◌, arith, append_assoc}
+use Rattle.std.proofs.Common.{◌≡◌, ℕ, ◌≤◌, true, Some, None, true≢false, List, [], ◌∷◌, ◌++◌, refl, sym, ap, subst, ◌∙◌, arith, append_assoc}
 use Rattle.bus_types.specs.Window.{Span}
 use Rattle.bus_types.specs.Timeline.{Follows, IsTimeline, end_from, end_of}
 use Rattle.bus_types.specs.Relay.{is_place}

@@ -1,15 +1,14 @@
 -- Windows behind an SCN, taken step by step, and the relay's reply to who asks for them.
-use Rattle.std.proofs.Common.{◌≡◌, ℕ, ◌+◌, ◌-◌, ◌*◌, ◌<◌, ◌≤◌, inl, inr, true, false, cond, nat_lt, nat_le, List, [], ◌∷◌, ◌++◌, length, take, drop, take-append-drop, refl, sym, ap, subst, ◌∙◌, arith}
+use Rattle.std.proofs.Common.{◌≡◌, ℕ, ◌+◌, ◌-◌, ◌*◌, ◌<◌, ◌≤◌, inl, inr, true, cond, nat_lt, nat_le, List, [], ◌∷◌, ◌++◌, length, take, drop, take-append-drop, refl, sym, ap, subst, ◌∙◌, arith}
 use Rattle.std.proofs.Math.Seq.{take-add}
 use Rattle.std.proofs.lemmas.Bool.{cases_lt, cond-false, le-ltb, lt-leb}
 use Rattle.std.proofs.lemmas.List.{take_all, append_cancel_left}
 use Rattle.bus_types.specs.declared.change.Change.{Change}
-use Rattle.bus_types.specs.declared.limits.TheConstants.{MAX_SCN}
 use Rattle.bus_types.specs.Change.{accepted}
-use Rattle.bus_types.specs.Window.{Span, span_size, IsSpan}
+use Rattle.bus_types.specs.Window.{Span, span_size}
 use Rattle.bus_types.specs.Timeline.{IsTimeline, IsTimelineFrom, end_from, windows_between, total_size}
 use Rattle.bus_types.specs.Cut.{cuts}
-use Rattle.bus_types.specs.Relay.{Served, NotFound, Empty, TooSmall, Windows, Relay, StandsFor, is_place, most_windows, longest_run, fitting, stream, answer_of}
+use Rattle.bus_types.specs.Relay.{Served, NotFound, Empty, TooSmall, Windows, Relay, is_place, most_windows, longest_run, fitting, stream, answer_of}
 use Rattle.bus_types.proofs.Stretches.{Rises, end_from-append, timeline_rises, rises_run, rises_split, run_rises, run_within, rises_all, between_none, between_cases, between_timeline}
 use Rattle.bus_types.proofs.Floors.{parted_at, rises_fore, between_fore, floor_is, stands_answers}
 use Rattle.bus_types.proofs.Runs.{longest_run_is, run_takes}
@@ -18,10 +17,9 @@ use Rattle.partition_filter.specs.Selection.Selection.{All}
 use Rattle.event_codec.specs.declared.reply.Served.{Served as Told}
 use Rattle.event_codec.specs.declared.reply.Served.TheVariants as told
 use Rattle.event_codec.specs.Reply.{AreTold, IsServed, reply_bytes}
-use Rattle.bus_wire.specs.Lawful.{IsRun}
 use Rattle.bus_wire.specs.Served.{Serves}
 use Rattle.bus_wire.proofs.Replies.{relay_serves, place_is_window}
-use Rattle.bootstrap_core.specs.Logging.{most_bytes, AreWindowsBehind, IsChained, IsRelayReply}
+use Rattle.bootstrap_core.specs.Logging.{most_bytes, IsChained}
 use Rattle.history_core.specs.Booting.{end_after, HasNext, IsNextReply}
 
 -- ---- step by step

@@ -1,11 +1,11 @@
 -- A bootstrap in memory that takes the relay's reply: what it is then, and that nothing but want of memory comes.
-use Rattle.std.proofs.Common.{◌≡◌, ℕ, zero, suc, ◌+◌, ◌*◌, ◌<◌, ◌≤◌, inl, inr, true, false, true≢false, nat_lt, List, [], ◌∷◌, length, take, Some, Result, Ok, Err, refl, sym, ap, subst, ◌∙◌, arith}
+use Rattle.std.proofs.Common.{◌≡◌, ℕ, zero, suc, ◌+◌, ◌<◌, ◌≤◌, inl, inr, true, false, true≢false, List, [], ◌∷◌, length, take, Some, Result, Err, refl, sym, ap, subst, ◌∙◌, arith}
 use Rattle.std.specs.Prelude.{◌↔◌, IsErrOf, slice_get}
 use Rattle.std.specs.List.{AllByRecursion}
 use Rattle.std.proofs.lemmas.Bool.{ltb-true}
 use Rattle.std.proofs.lemmas.List.{take-take}
 use Rattle.bus_types.specs.declared.limits.TheConstants.{MAX_SCN}
-use Rattle.bus_types.specs.Window.{Span, span_size, IsSpan}
+use Rattle.bus_types.specs.Window.{Span, IsSpan}
 use Rattle.bus_types.specs.Timeline.{IsTimelineFrom, end_from, end_of, windows_between, total_size}
 use Rattle.bus_types.specs.Relay.{Relay, is_place}
 use Rattle.bus_types.proofs.Stretches.{timeline-take}
@@ -20,14 +20,13 @@ use Rattle.bus_wire.specs.Lawful.{IsLawful, after_floor}
 use Rattle.bus_wire.proofs.Walk.{one_run}
 use Rattle.bus_wire.proofs.Uniqueness.{one_shape, fault_is_unlawful}
 use Rattle.bus_stores.specs.Keeper.{KeeperState}
-use Rattle.bus_stores.specs.Memory.{MemoryStore, no_fails, told_by}
-use Rattle.bus_stores.specs.MemoryLog.{MemoryWindows, log_of}
-use Rattle.bus_wire.specs.True.{Boot}
+use Rattle.bus_stores.specs.Memory.{no_fails, told_by}
+use Rattle.bus_stores.specs.MemoryLog.{log_of}
 use Rattle.bootstrap_core.specs.declared.fault.TakeLog.{TakeLog}
 use Rattle.bootstrap_core.specs.declared.fault.TakeLog.TheVariants.{BadReply, Gap, Full, LogFailed, Halted, NoMemory}
 use Rattle.bootstrap_core.specs.Boot.{BootState, told, Stands}
 use Rattle.bootstrap_core.specs.Logging.{log_ask, AreWindowsBehind, IsChained, Logs, Fills, TakesLog}
-use Rattle.history_core.specs.Bus.{boot_numbers, IsBooted}
+use Rattle.history_core.specs.Bus.{boot_numbers}
 use Rattle.history_core.specs.Booting.{MemoryParts, end_after, BootedAt, CanLog, HasNext, IsNextReply, CanTake}
 use Rattle.history_core.proofs.Booted.{stops_of, log_kept, keeper_kept}
 use Rattle.history_core.proofs.LogRuns.{total_bound, fewer_between, place_follows, chained_of}

@@ -9,7 +9,7 @@ use Rattle.bus_types.specs.Change.{Test}
 use Rattle.bus_types.specs.Window.{Span}
 use Rattle.bus_types.specs.Timeline.{IsTimeline}
 use Rattle.bus_types.specs.Table.{RowList}
-use Rattle.bus_types.specs.Relay.{Relay, StandsFor}
+use Rattle.bus_types.specs.Relay.{Relay}
 use Rattle.partition_filter.specs.Selection.{Selection, test_of}
 use Rattle.event_codec.specs.declared.reply.Shape.{Shape}
 use Rattle.checkpoint.specs.declared.mark.Mark.{Mark}
@@ -18,7 +18,6 @@ use Rattle.bus_wire.specs.declared.ask.Ask.{Ask}
 use Rattle.bus_wire.specs.Lawful.{IsLawful}
 use Rattle.bus_stores.specs.declared.keeper.Stop.{Stop}
 use Rattle.bus_stores.specs.declared.keeper.Stop.TheVariants.{Before, After}
-use Rattle.bus_stores.specs.declared.plan.Fail.{Fail}
 use Rattle.bus_stores.specs.Keeper.{Content, Stops, Move, SameStore, Meets, content_after, stops_after}
 use Rattle.bus_stores.specs.Memory.{MemoryStore, last_mark, no_fails, told_by}
 use Rattle.client_switch.specs.declared.client.Took.{Took}
@@ -35,7 +34,7 @@ use Rattle.client_switch.proofs.Coming.{can_come}
 use Rattle.client_switch.proofs.Turns.{stays, lawful}
 use Rattle.history_core.specs.Script.{Follower, reply_line, stopped_line}
 use Rattle.history_core.specs.Steps.{committed, followed, after_reply}
-use Rattle.history_core.specs.Bus.{MemberState, follower, IsReached, IsMember}
+use Rattle.history_core.specs.Bus.{MemberState, follower, IsReached}
 use Rattle.history_core.specs.Acting.{IsReopened, shape_line}
 use Rattle.history_core.specs.Polling.{Comes, TookReply}
 use Rattle.history_core.proofs.Booted.{none_listed}

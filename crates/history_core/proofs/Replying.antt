@@ -1,14 +1,12 @@
 -- What is sent to who asks is lawful, and is read as the one reply that is defined.
 use Rattle.std.proofs.Common.{◌≡◌, ℕ, Some, None, Bool, true, false, cond, nat_le, codes, List, [], ◌∷◌, length, length-append, refl, sym, ap, subst, ◌∙◌, arith}
 use Rattle.std.specs.List.{AllByRecursion}
-use Rattle.bus_types.specs.Change.{Test}
 use Rattle.bus_types.specs.Window.{Span, IsSpan}
 use Rattle.bus_types.specs.Timeline.{total_size}
 use Rattle.bus_types.specs.Relay.{Served, Relay, StandsFor, is_place, answer_of, stream}
 use Rattle.bus_types.specs.Relay.Served.{NotFound as NoWindow, Empty as NothingNew, TooSmall as TooLarge, Windows as SomeWindows}
 use Rattle.bus_types.proofs.Floors.{floor_is, stands_answers}
 use Rattle.partition_filter.specs.Selection.{Selection, test_of}
-use Rattle.event_codec.specs.declared.answer.Answer.{Answer}
 use Rattle.event_codec.specs.declared.answer.Answer.TheVariants.{Behind, StartDelta, StartSnapshot}
 use Rattle.event_codec.specs.declared.reply.Shape.{Shape}
 use Rattle.event_codec.specs.declared.reply.Shape.TheVariants as shapes
@@ -32,7 +30,7 @@ use Rattle.client_switch.specs.Moves.Wish.{NoWish, StartWish, FreshWish}
 use Rattle.bus_wire.specs.Questions.Question.{Stream, Start}
 use Rattle.bus_wire.specs.Questions.Reply.{Windows, Only}
 use Rattle.client_switch.specs.Client.{is_built, IsAskOf, IsReply}
-use Rattle.bus_wire.specs.True.{Boot, IsBoot, reply_of, boot_reply, IsTrueOf}
+use Rattle.bus_wire.specs.True.{Boot, IsBoot, reply_of, IsTrueOf}
 use Rattle.history_core.specs.Script.{Follower, served_line, reply_line}
 use Rattle.history_core.specs.Steps.{is_followed, followed, after_reply, replied}
 use Rattle.history_core.specs.Bus.{MemberState, follower, IsReached, IsMember}

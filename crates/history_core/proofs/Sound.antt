@@ -1,8 +1,8 @@
 -- What each line leaves: the defined state and text, and a bus that works.
-use Rattle.std.proofs.Common.{◌≡◌, ℕ, zero, suc, ◌<◌, ◌≤◌, Vec, Result, Ok, Err, Bool, true, false, cond, nat_lt, List, [], ◌∷◌, ◌++◌, length, length-append, get_or, take, ◌==◌, option_map, is_some, Option, Some, None, slice_set, refl, sym, ap, subst, ◌∙◌, arith}
+use Rattle.std.proofs.Common.{◌≡◌, ℕ, zero, suc, ◌<◌, ◌≤◌, Vec, Result, Ok, Err, Bool, true, false, cond, List, [], ◌∷◌, ◌++◌, length, length-append, get_or, take, ◌==◌, option_map, is_some, Option, Some, None, slice_set, refl, sym, ap, subst, ◌∙◌, arith}
 use Rattle.std.specs.Global.{Global}
 use Rattle.std.specs.List.{AllByRecursion, slice_get}
-use Rattle.std.proofs.lemmas.Bool.{eqb-false, lt-leb, le-ltb, lt-ltb, cond-true, cond-false}
+use Rattle.std.proofs.lemmas.Bool.{eqb-false, lt-leb}
 use Rattle.std.proofs.lemmas.List.{length-map, map-set, map-append}
 use Rattle.std.proofs.lemmas.Option.{slice_get-map, slice_get_read}
 use Rattle.bus_types.specs.declared.change.Change.{Change}
@@ -20,17 +20,12 @@ use Rattle.client_switch.specs.Moves.Wish.{NoWish}
 use Rattle.client_switch.proofs.Growing.{good_stays}
 use Rattle.trace_script.specs.declared.line.Line.{Line}
 use Rattle.trace_script.specs.declared.line.Line.TheVariants.{Show}
-use Rattle.bus_stores.specs.Memory.{MemoryStore}
-use Rattle.bus_stores.specs.MemoryLog.{MemoryWindows}
-use Rattle.bus_wire.specs.True.{Boot}
-use Rattle.bootstrap_core.specs.Boot.{BootParts}
-use Rattle.history_core.specs.Script.{Follower, State, floor, relay_line, gap_line, boot_line, stream_line, shown}
-use Rattle.history_core.specs.Steps.{Step, place_of, at_name, with_consumer, most_consumers, most_commits, new_follower, next_window, fed, booted, logged, replied, followed, asked, looked_at, relay_step, consumer_step, commit_step, feed_step, log_step, stream_step, poll_step, crash_step, stop_step, show_step}
+use Rattle.history_core.specs.Script.{Follower, State, floor, relay_line, stream_line, shown}
+use Rattle.history_core.specs.Steps.{Step, place_of, at_name, with_consumer, most_consumers, most_commits, new_follower, next_window, fed, replied, followed, asked, looked_at, relay_step, consumer_step, commit_step, feed_step, stream_step, poll_step, crash_step, stop_step, show_step}
 use Rattle.history_core.specs.declared.fault.StepFault.{StepFault}
 use Rattle.history_core.specs.declared.fault.StepFault.TheVariants.{BadLine, WriteFault, NoMemory}
 use Rattle.history_core.specs.Bus.{MemberState, Parts, follower, followers, boot_numbers, state_of, IsMember, IsBooted, IsSound, WasCalled, Calls}
 use Rattle.history_core.specs.Acting.{IsWorking, Becomes, Polls, Shows, Publishes, Acts}
-use Rattle.history_core.specs.Booting.{BootedAt, logged_to, CanLog}
 use Rattle.history_core.proofs.Booted.{place_within, booted_stays}
 
 -- ---- lists
@@ -113,19 +108,11 @@ works_commit b w after h few f e = record {
 pub works_feed : (b : Parts) (r : Relay) (windows : List Span) → IsSound b → windows ≡ take (length windows) (windows_between b.relay.tail (end_of b.source) b.source) → Publishes windows b.relay r → IsWorking (record b { relay = r })
 works_feed b r windows h e p = record { few = h.few; relay = p.stands b.source h.relay e; boot = h.boot; members = h.members }
 
--- a bus whose bootstrap moved
-pub works_boot : (b : Parts) (boot : BootParts MemoryWindows MemoryStore) → IsSound b → IsBooted b.source boot → IsWorking (record b { boot = boot })
-works_boot b boot h booted = record { few = h.few; relay = h.relay; boot = booted; members = h.members }
-
 -- a bus with another consumer at a place
 works_set : (b : Parts) (i : ℕ) (m : MemberState) → IsSound b → IsMember b.source m → IsWorking (record b { members = slice_set b.members i m })
 works_set b i m h member = record { few = h.few; relay = h.relay; boot = h.boot; members = all_set (IsMember b.source) b.members i m h.members member }
 
 -- ---- lines
-
--- a line did what is defined for it, and left a bus that works
-abbrev pub Did : Step → Parts → List ℕ → Type 0
-Did defined new text = (defined ≡ Some (state_of new, text)) × IsWorking new
 
 -- a relay's room
 pub roomed : (s next : State) (bytes windows : ℕ) (text : List ℕ) → s.begun ≡ false → next ≡ record s { room = record { bytes = bytes; windows = windows } } → text ≡ [] → relay_step s bytes windows ≡ Some (next, text)
@@ -178,36 +165,6 @@ streamed b scn test most text h t =
     let line = ap stream_line (stands_answers b.source b.relay scn test most h ∙ (λ i. stream b.source (h.floor i) b.relay.tail scn test most)) in
     λ i. Some (state_of b, sym (t ∙ line) i)
 
--- a line that moves the bootstrap
-pub moved_on : (b : Parts) (n : Boot) (boot : BootParts MemoryWindows MemoryStore) (text : List ℕ) → IsSound b → BootedAt b.source n boot → text ≡ boot_line (boot_numbers boot) → Did (Some (booted (state_of b) n)) (record b { boot = boot }) text
-moved_on b n boot text h at t = (
-  (λ i. Some (record (state_of b) { boot = sym at.is i }, (ap boot_line (sym at.is) ∙ sym t) i)),
-  works_boot b boot h at.booted,
-)
-
--- the bootstrap logs what the relay keeps
-pub can_log : (b : Parts) → IsSound b → b.relay.floor ≤ (boot_numbers b.boot).high → CanLog b.source b.relay b.boot
-can_log b h reach = record { few = h.few; stands = h.relay; booted = h.boot; reach = reach }
-
-pub logged_on : (b : Parts) (count : ℕ) (boot : BootParts MemoryWindows MemoryStore) (text : List ℕ) → IsSound b → b.relay.floor ≤ (boot_numbers b.boot).high → BootedAt b.source (logged_to b.source b.relay (boot_numbers b.boot) count) boot → text ≡ boot_line (boot_numbers boot)
-    → Did (log_step (state_of b) count) (record b { boot = boot }) text
-unfolding log_step
-logged_on b count boot text h reach at t =
-    let s : State = state_of b in
-    let low = le-ltb (boot_numbers b.boot).high (floor s) (omega (arith, h.relay.floor, reach)) in
-    let did = moved_on b (logged_to b.source b.relay (boot_numbers b.boot) count) boot text h at t in
-    (ap Some (cond-false (nat_lt (boot_numbers b.boot).high (floor s)) (s, gap_line (floor s)) (booted s (record s.boot { high = logged s count })) low) ∙ did.0, did.1)
-
--- or says what it missed
-pub gap_said : (b : Parts) (count : ℕ) (text : List ℕ) → IsSound b → (boot_numbers b.boot).high < b.relay.floor → text ≡ gap_line b.relay.floor → Did (log_step (state_of b) count) b text
-unfolding log_step
-gap_said b count text h below t =
-    let s : State = state_of b in
-    let low = lt-ltb (boot_numbers b.boot).high (floor s) (omega (arith, h.relay.floor, below)) in (
-      ap Some (cond-true (nat_lt (boot_numbers b.boot).high (floor s)) (s, gap_line (floor s)) (booted s (record s.boot { high = logged s count })) low) ∙ (λ i. Some (s, (ap gap_line (sym h.relay.floor) ∙ sym t) i)),
-      record { few = h.few; relay = h.relay; boot = h.boot; members = h.members },
-    )
-
 -- a bus of which nothing has come
 pub sound_new : (b : Parts) (bytes windows : ℕ) → b.source ≡ [] → b.relay ≡ new_relay (record { bytes = bytes; windows = windows }) → IsBooted [] b.boot → b.members ≡ [] → IsSound b
 sound_new b bytes windows s r boot m = record {
@@ -236,6 +193,10 @@ found_at ms seen name said i m s n place within is =
 -- the consumer there follows the source
 pub member_at : (b : Parts) (name : List ℕ) (i : ℕ) (m : MemberState) → IsSound b → IsFoundAt b.members name i m → IsMember b.source m
 member_at b name i m h f = all_at (IsMember b.source) b.members i m f.at h.members
+
+-- a line did what is defined for it, and left a bus that works
+abbrev Did : Step → Parts → List ℕ → Type 0
+Did defined new text = (defined ≡ Some (state_of new, text)) × IsWorking new
 
 -- the consumer there is another one now
 changed_at : (b : Parts) (i : ℕ) (name : List ℕ) (act : ℕ → Follower → State × List ℕ) (m n : MemberState) (next : Follower) (text : List ℕ) → IsSound b → IsFoundAt b.members name i m → act i (follower m) ≡ (with_consumer (state_of b) i next, text) → Becomes b.source next n → Did (at_name (state_of b) name act) (record b { members = slice_set b.members i n }) text

@@ -1,5 +1,5 @@
 -- What the bus makes of its bootstrap.
-use Rattle.std.specs.Prelude.{◌≡◌, ℕ, ◌<◌, ◌≤◌, min, true, List, [], length, take}
+use Rattle.std.specs.Prelude.{◌≡◌, ℕ, ◌<◌, ◌≤◌, min, true, List, length, take}
 use Rattle.bus_types.specs.Window.{Span}
 use Rattle.bus_types.specs.Timeline.{IsTimeline, end_from, windows_between}
 use Rattle.bus_types.specs.Relay.{Relay, StandsFor, is_place}

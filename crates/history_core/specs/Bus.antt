@@ -58,7 +58,7 @@ state_of b = record { begun = b.begun; windows = b.source; room = b.relay.room; 
 
 -- ---- when a bus is sound
 
--- the marks and wishes that a script reaches so far, where the bootstrap has logged nothing
+-- the marks and wishes that a script reaches so far, where nothing is built behind a beginning anew
 abbrev pub IsReached : Mark → Wish → Type 0
 IsReached (Online scn) NoWish = Unit {0}
 IsReached (Online scn) StartWish = Unit {0}

@@ -32,9 +32,10 @@ const MOST_CONSUMERS: usize = 64;
 /// The most windows of a script.
 const MOST_COMMITS: u64 = 1_000_000;
 
-/// A source, a relay, and consumers that follow the source, each with a client and a keeper of its rows and its mark in
-/// memory. Contracts see the source's windows, the relay, and what clients and keepers tell; `state_of` is the state of
-/// the script whose bus it is, and `IsSound` says that all of it fits together (`docs/DEFINITIONS.md`).
+/// A source, a relay, a bootstrap over a log and a keeper in memory, and consumers that follow the source, each with a
+/// client and a keeper of its rows and its mark in memory. Contracts see the source's windows, the relay, and what log,
+/// clients and keepers tell; `state_of` is the state of the script whose bus it is, and `IsSound` says that all of it fits
+/// together (`docs/DEFINITIONS.md`).
 #[derive(Debug, Drop)]
 pub struct Bus {
     begun: bool,

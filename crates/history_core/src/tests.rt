@@ -5,7 +5,9 @@ use trace_script::read_line;
 
 // What a bus prints of a script's lines, up to the first bad one.
 fn printed(alloc: Global, script: &str) -> Option<String> {
-    let mut bus = Bus::new(alloc, 1_048_576, 2).ok()?;
+    let Ok(mut bus) = Bus::new(alloc, 1_048_576, 2) else {
+        return None;
+    };
     let mut out = MemorySink::new(alloc, 4096, &[]).ok()?;
     for text in script.lines() {
         let line = read_line(alloc, text.as_bytes()).ok()?;

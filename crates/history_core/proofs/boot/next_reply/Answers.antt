@@ -1,8 +1,8 @@
-use Rattle.std.proofs.Common.{List, ℕ, ◌++◌, ap, ◌∙◌, rules, subst}
+use Rattle.std.proofs.Common.{List, ℕ, ◌++◌, ap, ◌∙◌, rules}
 use Rattle.bus_types.specs.Relay.{answer_of}
 use Rattle.partition_filter.specs.Selection.{test_of}
 use Rattle.partition_filter.specs.Selection.Selection.{All}
-use Rattle.event_codec.specs.Reply.{IsServed, reply_bytes}
+use Rattle.event_codec.specs.Reply.{reply_bytes}
 use Rattle.history_core.proofs.LogRuns.{told_windows, next_reply}
 use Rattle.history_core.proofs.boot.next_reply.Goals as goal
 
