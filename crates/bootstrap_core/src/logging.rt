@@ -139,7 +139,7 @@ fn split(alloc: Global, high: u64, reply: &[u8]) -> Result<Vec<Window>, TakeLog>
     ensures fault { IfErr result (λ fault. fault ≡ TakeLog.NoMemory) }
 {
     let mut windows = Vec::new(alloc);
-    match Splitter::new(alloc, high).feed(reply, &mut windows) {
+    match Splitter::new(alloc, high).feed(alloc, reply, &mut windows) {
         Ok(()) => Ok(windows),
         Err(SplitFault::NoMemory) => Err(TakeLog::NoMemory),
         Err(SplitFault::Bad { .. }) => unreachable!(),

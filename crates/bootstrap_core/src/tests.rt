@@ -13,7 +13,7 @@ fn window_bytes(alloc: Global, scn: u64, prev: u64, key: u64, byte: u8) -> Optio
     };
     let window = Window::new(scn, prev, vec![in alloc; change].ok()?).ok()?;
     let mut bytes = Vec::new(alloc);
-    write_window(&window, &mut bytes).ok()?;
+    write_window(alloc, &window, &mut bytes).ok()?;
     Some(bytes)
 }
 

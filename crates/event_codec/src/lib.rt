@@ -15,6 +15,7 @@ mod reply;
 mod write;
 
 pub use answer::{Answer, answer_at, answer_bytes};
+pub use bus_types::Accepts;
 pub use close::close_bytes;
 pub use event::EventView;
 pub use item::{Events, Follows, Item, item_front};

@@ -79,7 +79,7 @@ fn windows_are_appended_byte_by_byte(rt: HostRuntime) -> Result<(), Fail> {
     ] {
         let window = window.ok_or("a window")?;
         let mut out = vec![in alloc; 7u8; 1]?;
-        write_window(&window, &mut out).ok().ok_or("room")?;
+        write_window(alloc, &window, &mut out).ok().ok_or("room")?;
         assert_eq!(rt; out.split_first(), Some((&7, want)));
     }
     Ok(())
@@ -90,7 +90,7 @@ fn a_filter_leaves_accepted_events_and_the_mark(rt: HostRuntime) -> Result<(), F
     for (first, second, want) in [(1, 2, &PUT[..]), (2, 4, &PUT[24..])] {
         let window = puts(rt.alloc(), first, Some(second)).ok_or("puts")?;
         let mut out = Vec::new(rt.alloc());
-        write_filtered(&window, &OddKeys, &mut out)
+        write_filtered(rt.alloc(), &window, &OddKeys, &mut out)
             .ok()
             .ok_or("room")?;
         assert_eq!(rt; out.as_slice(), want);

@@ -8,6 +8,7 @@ ghost use Rattle.event_codec.specs.Writing.{accepted_bytes};
 use crate::head::{DELETE, Head, PUT};
 use crate::mark::mark_bytes;
 use bus_types::{Accepts, Change, Everything, Key, NoMemory, Window};
+use std::alloc::Global;
 
 // Appends bytes for which there is room.
 fn append(bytes: &[u8], out: &mut Vec<u8>)
@@ -72,18 +73,20 @@ fn append_changes<F: Accepts>(scn: u64, changes: &[Change], filter: &F, out: &mu
 }
 
 /// Appends the bytes of a window: its events in order and then its mark. After want of memory the output is as before.
+/// The output grows in its own allocator.
 #[tactic(auto, using(bus_types::proofs::TableLaws::cut_everything))]
-pub fn write_window(window: &Window, out: &mut Vec<u8>) -> Result<(), NoMemory>
+pub fn write_window(alloc: Global, window: &Window, out: &mut Vec<u8>) -> Result<(), NoMemory>
     ensures ok { OnOk result (out.new.items ≡ out.old.items ++ window_bytes window.now) }
     ensures err { OnErr result (out.new.items ≡ out.old.items) }
     ensures full { OnErr result (vec_capacity out.old < vec_len out.old + span_size window.now) }
 {
-    write_filtered(window, &Everything, out)
+    write_filtered(alloc, window, &Everything, out)
 }
 
 /// Appends the bytes of what a filter leaves of a window: the accepted events in order, and always the mark. After want
-/// of memory the output is as before.
+/// of memory the output is as before. The output grows in its own allocator.
 pub fn write_filtered<F: Accepts>(
+    _alloc: Global,
     window: &Window,
     filter: &F,
     out: &mut Vec<u8>,

@@ -249,7 +249,7 @@ impl Bus {
         if self.source.count() >= MOST_COMMITS {
             return Err(StepFault::BadLine);
         }
-        self.source.append(window)?;
+        self.source.append(alloc, window)?;
         Ok(Vec::new(alloc))
     }
 

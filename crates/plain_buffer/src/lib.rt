@@ -9,6 +9,7 @@ mod run;
 mod send;
 
 pub use buffer::PlainBuffer;
+pub use event_codec::Served;
 
 #[cfg(test)]
 mod tests;

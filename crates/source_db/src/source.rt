@@ -64,7 +64,7 @@ impl SourceDb {
     }
 
     /// Appends a window that is chained to the last one. After want of memory the source is as before.
-    pub fn append(&mut self, window: Window) -> Result<(), NoMemory>
+    pub fn append(&mut self, _alloc: Global, window: Window) -> Result<(), NoMemory>
         requires chained { window.prev ≡ end_of self.old }
         requires full { 0 < length window.changes }
         ensures ok { OnOk result (self.new ≡ self.old ++ window ∷ []) }
@@ -78,7 +78,12 @@ impl SourceDb {
     /// Commits the changes as one window, chained to the one before it. `NotRising` comes exactly where the SCN isn't
     /// above the last one, `Bad` exactly where it is and the changes are no window in full. After a fault the source
     /// is as before.
-    pub fn commit(&mut self, scn: u64, changes: Vec<Change>) -> Result<(), CommitFault>
+    pub fn commit(
+        &mut self,
+        alloc: Global,
+        scn: u64,
+        changes: Vec<Change>,
+    ) -> Result<(), CommitFault>
         ensures ok { OnOk result (self.new ≡ self.old ++ next_window self.old scn changes.items ∷ []) }
         ensures err { OnErr result (self.new ≡ self.old) }
         ensures refused { Refuses self.old scn changes.items result }
@@ -91,7 +96,7 @@ impl SourceDb {
             Ok(window) => window,
             Err((fault, _)) => return Err(CommitFault::Bad(fault)),
         };
-        match self.append(window) {
+        match self.append(alloc, window) {
             Ok(()) => Ok(()),
             Err(NoMemory) => Err(CommitFault::NoMemory),
         }

@@ -43,7 +43,7 @@ fn a_commit_is_taken_or_changes_nothing(rt: HostRuntime) -> Result<(), Fail> {
         ),
     ] {
         let changes = deletes(rt.alloc(), changes)?;
-        assert_eq!(rt; source.commit(scn, changes), answer, "at {scn}");
+        assert_eq!(rt; source.commit(rt.alloc(), scn, changes), answer, "at {scn}");
         assert_eq!(rt; (source.last(), source.count()), (last, count), "at {scn}");
     }
     Ok(())

@@ -80,7 +80,7 @@ pub(crate) fn windows_of(alloc: Global, count: u64) -> Result<Vec<Window>, Fault
 pub(crate) fn write(alloc: Global, windows: &[Window]) -> Result<Vec<u8>, Fault> {
     let mut bytes = Vec::new(alloc);
     for window in windows {
-        write_window(window, &mut bytes)?;
+        write_window(alloc, window, &mut bytes)?;
     }
     Ok(bytes)
 }
@@ -94,7 +94,7 @@ pub(crate) fn split(alloc: Global, bytes: &[u8], size: usize) -> Result<Vec<Wind
     let mut rest = bytes;
     while !rest.is_empty() {
         let (piece, behind) = rest.split_at(size.min(rest.len()));
-        splitter.feed(piece, &mut whole)?;
+        splitter.feed(alloc, piece, &mut whole)?;
         rest = behind;
     }
     Ok(whole)

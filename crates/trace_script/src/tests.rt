@@ -237,7 +237,7 @@ fn written(alloc: Global, line: &Line) -> Result<Vec<u8>, NoMemory>
     requires { IsInRange line.now }
 {
     let mut out = Vec::from_slice(alloc, b"> ")?;
-    write_line(line, &mut out)?;
+    write_line(alloc, line, &mut out)?;
     Ok(out)
 }
 
@@ -325,7 +325,7 @@ fn a_line_is_written_behind_what_was_there(rt: HostRuntime) -> Result<(), Fail> 
 fn written_again(alloc: Global, text: &[u8]) -> Result<Vec<u8>, LineFault> {
     let line = read_line(alloc, text)?;
     let mut out = Vec::new(alloc);
-    write_line(&line, &mut out)?;
+    write_line(alloc, &line, &mut out)?;
     Ok(out)
 }
 

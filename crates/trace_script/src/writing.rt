@@ -18,14 +18,14 @@ use std::alloc::Global;
 /// Appends the text of a line, without a LF; a blank line is the empty text. What is written is read back as the
 /// same line. After want of memory the output is as before.
 #[tactic(auto, using(crate::proofs::WrittenTexts::read_back))]
-pub fn write_line(line: &Line, out: &mut Vec<u8>) -> Result<(), NoMemory>
+pub fn write_line(alloc: Global, line: &Line, out: &mut Vec<u8>) -> Result<(), NoMemory>
     requires { IsInRange line.now }
     ensures ok { OnOk result (out.new.items ≡ out.old.items ++ line_text line.now) }
     ensures spelled { OnOk result (Spells (line_text line.now) line.now) }
     ensures read_back { line_of (line_text line.now) ≡ Some line.now }
     ensures err { OnErr result (out.new.items ≡ out.old.items) }
 {
-    let filter = write_filter(line, *out.allocator());
+    let filter = write_filter(line, alloc);
     // What it counts is read back, also where there was no memory for the filter's text.
     let room = room_for(line);
     let filter = filter?;

@@ -78,7 +78,12 @@ impl Splitter {
     /// where a complete head can't stand, after the windows before it were given, and each later call answers the same.
     /// After want of memory the splitter and the list are as before. A stream that isn't bad is shorter than 2^64 bytes;
     /// one that is bad takes a piece of any length.
-    pub fn feed(&mut self, piece: &[u8], whole: &mut Vec<Window>) -> Result<(), SplitFault>
+    pub fn feed(
+        &mut self,
+        alloc: Global,
+        piece: &[u8],
+        whole: &mut Vec<Window>,
+    ) -> Result<(), SplitFault>
         requires { self.old.bad ≡ None → self.old.given + length self.old.rest + length piece.now < 2 ^ 64 }
         ensures { Feeds result self.old piece.now self.new whole.old.items whole.new.items }
     {
@@ -86,21 +91,26 @@ impl Splitter {
             return Err(SplitFault::Bad { place });
         }
         if self.rest.is_empty() {
-            self.take_first(piece, whole)
+            self.take_first(alloc, piece, whole)
         } else {
-            self.take_more(piece, whole)
+            self.take_more(alloc, piece, whole)
         }
     }
 
     // As `feed`, where nothing is left from before: only what is left behind the last window is copied.
-    fn take_first(&mut self, piece: &[u8], whole: &mut Vec<Window>) -> Result<(), SplitFault>
+    fn take_first(
+        &mut self,
+        alloc: Global,
+        piece: &[u8],
+        whole: &mut Vec<Window>,
+    ) -> Result<(), SplitFault>
         requires good { self.old.bad ≡ None }
         requires none_left { self.old.rest ≡ [] }
         requires short { self.old.given + length piece.now < 2 ^ 64 }
         ensures { FeedsGood result self.old piece.now self.new whole.old.items whole.new.items }
     {
         let before = whole.len();
-        let scanned = scan_all(self.alloc, self.follows, self.events, piece, whole);
+        let scanned = scan_all(alloc, self.follows, self.events, piece, whole);
         let Ok((scan, stop)) = scanned else {
             return Err(SplitFault::NoMemory);
         };
@@ -121,7 +131,12 @@ impl Splitter {
     }
 
     // As `feed`, where something is left from before.
-    fn take_more(&mut self, piece: &[u8], whole: &mut Vec<Window>) -> Result<(), SplitFault>
+    fn take_more(
+        &mut self,
+        alloc: Global,
+        piece: &[u8],
+        whole: &mut Vec<Window>,
+    ) -> Result<(), SplitFault>
         requires good { self.old.bad ≡ None }
         requires short { self.old.given + length self.old.rest + length piece.now < 2 ^ 64 }
         ensures { FeedsGood result self.old piece.now self.new whole.old.items whole.new.items }
@@ -130,7 +145,7 @@ impl Splitter {
         let Ok(()) = self.rest.extend_from_slice(piece) else {
             return Err(SplitFault::NoMemory);
         };
-        let scanned = scan_all(self.alloc, self.follows, self.events, &self.rest, whole);
+        let scanned = scan_all(alloc, self.follows, self.events, &self.rest, whole);
         let Ok((scan, stop)) = scanned else {
             self.rest.truncate(before);
             return Err(SplitFault::NoMemory);

@@ -104,7 +104,7 @@ fn split(
     let mut rest = stream;
     while !rest.is_empty() {
         let (piece, behind) = rest.split_at(size.min(rest.len()));
-        last = splitter.feed(piece, &mut whole);
+        last = splitter.feed(alloc, piece, &mut whole);
         rest = behind;
     }
     (whole, last)
@@ -114,7 +114,10 @@ fn split(
 fn a_window_comes_with_its_last_byte(rt: HostRuntime) -> Result<(), Fail> {
     let mut splitter = Splitter::new(rt.alloc(), 0);
     let mut whole = Vec::new(rt.alloc());
-    assert_eq!(rt; splitter.feed(&WINDOW_10[..40], &mut whole), Ok(()));
+    assert_eq!(rt;
+        splitter.feed(rt.alloc(), &WINDOW_10[..40], &mut whole),
+        Ok(())
+    );
     assert_eq!(rt; whole.len(), 0);
     let (given, last) = split(rt.alloc(), 0, &WINDOW_10[..40], 1);
     assert_eq!(rt; (given.len(), last), (0, Ok(())));
@@ -237,14 +240,14 @@ fn a_head_that_cannot_stand_is_bad_as_soon_as_it_is_complete(rt: HostRuntime) ->
 fn a_bad_stream_is_fed_again_and_answers_the_same(rt: HostRuntime) -> Result<(), Fail> {
     let mut splitter = Splitter::new(rt.alloc(), FLOOR);
     let mut whole = Vec::new(rt.alloc());
-    let first = splitter.feed(&[4], &mut whole);
+    let first = splitter.feed(rt.alloc(), &[4], &mut whole);
     let Err(SplitFault::Bad { place }) = first else {
         return Err("a bad head".into());
     };
     assert_eq!(rt; (place, whole.len()), (0, 0));
     let fault = Err(SplitFault::Bad { place });
-    assert_eq!(rt; splitter.feed(&WINDOW_10, &mut whole), fault);
-    assert_eq!(rt; splitter.feed(&WINDOW_10, &mut whole), fault);
+    assert_eq!(rt; splitter.feed(rt.alloc(), &WINDOW_10, &mut whole), fault);
+    assert_eq!(rt; splitter.feed(rt.alloc(), &WINDOW_10, &mut whole), fault);
     assert_eq!(rt; whole.len(), 0);
     Ok(())
 }
