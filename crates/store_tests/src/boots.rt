@@ -1,7 +1,7 @@
 use bootstrap_core::{Boot, TakeLog};
 use bus_stores::{MemoryKeeper, MemoryLog, WindowLog};
 use bus_types::{Change, Key, NoMemory, Payload, Window};
-use event_codec::{Answer, write_window};
+use event_codec::write_window;
 use std::alloc::Global;
 
 // The bytes of a window that puts one byte at source 0.
@@ -66,6 +66,25 @@ fn windows_are_logged_applied_and_trimmed(rt: HostRuntime) {
     assert_eq!(rt; all.as_deref(), Some(steps.as_slice()));
 }
 
+// The floor of the log and its newest SCN, after the first of two windows was applied and trimmed.
+fn trimmed(alloc: Global) -> Option<(u64, u64)> {
+    let mut boot = new_boot(alloc, 1000)?;
+    let mut reply = window_bytes(alloc, 10, 0, 1, 0xaa)?;
+    reply
+        .extend_from_slice(&window_bytes(alloc, 20, 10, 1, 0xbb)?)
+        .ok()?;
+    boot.take_log(alloc, &reply, 32).ok()?;
+    boot.apply(alloc, 1).ok()?;
+    boot.trim(alloc, 10).ok()?;
+    let (log, _keeper) = boot.parts();
+    Some((log.floor(), log.high()))
+}
+
+#[test]
+fn a_trim_drops_from_the_log(rt: HostRuntime) {
+    assert_eq!(rt; trimmed(rt.alloc()), Some((10, 20)));
+}
+
 #[test]
 fn a_window_without_room_is_refused(rt: HostRuntime) -> Result<(), NoMemory> {
     let alloc = rt.alloc();
@@ -76,34 +95,5 @@ fn a_window_without_room_is_refused(rt: HostRuntime) -> Result<(), NoMemory> {
         Err(TakeLog::Full { need: 41 })
     );
     assert_eq!(rt; numbers(&boot), (0, 0, 0));
-    Ok(())
-}
-
-#[test]
-fn a_window_that_does_not_follow_is_refused(rt: HostRuntime) -> Result<(), NoMemory> {
-    let alloc = rt.alloc();
-    let mut boot = new_boot(alloc, 1000).ok_or(NoMemory)?;
-    let first = window_bytes(alloc, 10, 0, 1, 0xaa).ok_or(NoMemory)?;
-    assert_eq!(rt; boot.take_log(alloc, &first, 32), Ok(10));
-    let reply = window_bytes(alloc, 20, 5, 1, 0xaa).ok_or(NoMemory)?;
-    assert_eq!(rt;
-        boot.take_log(alloc, &reply, 32),
-        Err(TakeLog::BadReply { place: 24 })
-    );
-    assert_eq!(rt; numbers(&boot), (0, 0, 10));
-    Ok(())
-}
-
-#[test]
-fn who_fell_behind_is_told_how_to_start(rt: HostRuntime) -> Result<(), NoMemory> {
-    let alloc = rt.alloc();
-    let mut boot = new_boot(alloc, 1000).ok_or(NoMemory)?;
-    let reply = window_bytes(alloc, 10, 0, 1, 0xaa).ok_or(NoMemory)?;
-    assert_eq!(rt; boot.take_log(alloc, &reply, 32), Ok(10));
-    assert_eq!(rt; boot.start(0, false), Answer::StartDelta(10));
-    assert_eq!(rt; boot.start(10, false), Answer::Behind(10));
-    assert_eq!(rt; boot.start(0, true), Answer::StartSnapshot(0));
-    assert_eq!(rt; boot.target(0, 10), Answer::Target(10));
-    assert_eq!(rt; boot.target(0, 11), Answer::Behind(10));
     Ok(())
 }

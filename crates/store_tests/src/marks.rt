@@ -1,8 +1,4 @@
-ghost use Rattle.std.specs.Prelude.{◌≡◌, ◌<◌, ◌≤◌, IfOk};
-ghost use Rattle.bus_types.specs.declared.limits.TheConstants.{MAX_SCN};
-ghost use Rattle.checkpoint.specs.Mark.{mark_text};
-
-use bus_types::{Cursor, Key, MAX_SCN, MarkText, NoMemory};
+use bus_types::{Cursor, Key, MarkText};
 use checkpoint::{Mark, MarkFault};
 use std::alloc::Global;
 use std::test::*;
@@ -20,20 +16,6 @@ fn is_refused(alloc: Global, text: &[u8]) -> bool {
         return false;
     };
     matches!(Mark::read(alloc, &text), Err(MarkFault::BadMark))
-}
-
-/// A caller shows the rule and the limit, and no range of a cursor.
-fn delta_text(alloc: Global, since: u64, target: u64, cursor: Cursor) -> Result<MarkText, NoMemory>
-    requires rule { since < target }
-    requires limit { target ≤ MAX_SCN }
-    ensures { IfOk result (λ text. text ≡ mark_text (Mark.Delta since target cursor)) }
-{
-    Mark::Delta {
-        since,
-        target,
-        cursor,
-    }
-    .write(alloc)
 }
 
 fn after(source: u16, key: u64) -> Cursor {
@@ -95,26 +77,6 @@ fn each_kind_is_read_and_written(rt: HostRuntime) -> Result<(), Fail> {
         assert!(rt; written.bytes() == text);
         assert_eq!(rt; mark.floor_of(), floor);
     }
-    Ok(())
-}
-
-#[test]
-fn limits_are_marks(rt: HostRuntime) -> Result<(), Fail> {
-    for text in [
-        b"{\"mode\":\"online\",\"scn\":0}".as_slice(),
-        b"{\"mode\":\"online\",\"scn\":9223372036854775807}",
-        b"{\"cursor\":\"65535/18446744073709551615\",\"mode\":\"delta\",\"since\":39,\"target\":40}",
-        b"{\"cursor\":\"0/0\",\"mode\":\"snapshot\",\"since\":9,\"start\":0,\"top\":0}",
-        b"{\"at\":39,\"mode\":\"catchup\",\"since\":40,\"start\":39,\"target\":40}",
-    ] {
-        let (_, written) = read_and_write(rt.alloc(), text)?;
-        assert!(rt; written.bytes() == text);
-    }
-    let text = delta_text(rt.alloc(), 0, MAX_SCN, after(3, 5))?;
-    assert!(rt;
-        text.bytes()
-            == b"{\"cursor\":\"3/5\",\"mode\":\"delta\",\"since\":0,\"target\":9223372036854775807}".as_slice()
-    );
     Ok(())
 }
 
