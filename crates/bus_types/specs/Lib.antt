@@ -8,3 +8,4 @@ pub mod Cut
 pub mod Relay
 pub mod Text
 pub mod Rows
+pub mod Latest

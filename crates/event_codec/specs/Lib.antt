@@ -8,3 +8,5 @@ pub mod Frames
 pub mod Items
 pub mod Streams
 pub mod Reply
+pub mod Questions
+pub mod Chunks

@@ -23,12 +23,14 @@ use Rattle.bus_stores.specs.Memory.{stop_at}
 use Rattle.checkpoint.specs.declared.mark.Mark.{Mark}
 use Rattle.checkpoint.specs.declared.mark.Mark.TheVariants.{Online, Delta, Snapshot, Scanned, Catchup}
 use Rattle.checkpoint.specs.Mark.{floor_of}
-use Rattle.bus_wire.specs.Questions.{Reply}
+use Rattle.event_codec.specs.Questions.{Reply}
 use Rattle.client_switch.specs.Moves.{Wish, Turn, question, turn, replayed}
 use Rattle.client_switch.specs.Moves.Wish.{NoWish, StartWish, FreshWish}
-use Rattle.bus_wire.specs.Questions.Question.{Start}
-use Rattle.bus_wire.specs.Questions.Reply.{Rows, Changes, Only}
-use Rattle.bus_wire.specs.True.{Boot, reply_of, items_within, frame_size, chunk_of, replay_of, puts_of, last_changes, changes_after, boot_reply}
+use Rattle.event_codec.specs.Questions.Question.{Start}
+use Rattle.event_codec.specs.Questions.Reply.{Rows, Changes, Only}
+use Rattle.bus_types.specs.Latest.{last_changes, changes_after}
+use Rattle.event_codec.specs.Chunks.{items_within, frame_size, chunk_of, puts_of}
+use Rattle.bus_wire.specs.True.{Boot, reply_of, replay_of, boot_reply}
 use Rattle.trace_script.specs.declared.line.Line.{Line}
 use Rattle.trace_script.specs.declared.line.Line.TheVariants.{Blank, Relay, Consumer, Commit, Feed, Log, Apply, Trim, RestartBoot, Poll, Crash, Stop as StopLine, Show, Stream}
 use Rattle.trace_script.specs.Lines.{line_of}
