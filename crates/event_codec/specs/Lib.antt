@@ -8,3 +8,4 @@ pub mod Frames
 pub mod Items
 pub mod Streams
 pub mod Reply
+pub mod Parsing
