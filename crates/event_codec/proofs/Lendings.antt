@@ -1,8 +1,11 @@
 -- Views that lend bytes: what stands in front is the first of what the bytes are, and the others stand behind it.
-use Rattle.std.proofs.Common.{◌≡◌, ℕ, ◌+◌, ◌-◌, ◌≤◌, Bool, true, false, cond, eqb, ltb, inl, inr, List, [], ◌∷◌, ◌++◌, length, get_or, take, drop, Option, Some, None, refl, sym, ap, subst, ◌∙◌, append_assoc, arith}
-use Rattle.std.specs.Prelude.{option_map}
+use Rattle.std.proofs.Common.{◌≡◌, ℕ, zero, suc, ◌+◌, ◌-◌, ◌<◌, ◌≤◌, Bool, true, false, cond, eqb, ltb, inl, inr, List, [], ◌∷◌, ◌++◌, length, get_or, take, drop, Option, Some, None, refl, sym, ap, subst, ◌∙◌, append_assoc, arith}
+use Rattle.std.specs.Prelude.{flat_map, option_map}
+use Rattle.std.specs.List.{AllByRecursion}
 use Rattle.std.proofs.lemmas.Bool.{ne_eqb}
-use Rattle.std.proofs.lemmas.List.{length-append, drop_at, take_at, append-nil}
+use Rattle.std.proofs.lemmas.List.{length-append, drop_at, take_at, append-nil, take-append-drop, drop-drop}
+use Rattle.std.proofs.Math.Seq.{drop-nil}
+use Rattle.std.proofs.lemmas.List.Concat.{flat_map-append}
 use Rattle.std.proofs.lemmas.Option.{same_Some, none-some}
 use Rattle.bus_types.specs.declared.change.Change.{Change}
 use Rattle.bus_types.specs.Window.{Span, IsSpan}
@@ -324,3 +327,56 @@ windows_none bytes marked have marked_is front = windows_are have.0 bytes have.1
 -- what is behind the events is no longer than all
 pub behind_short : (bytes marked : List ℕ) → marked ≡ (read_all event_in_front bytes).1 → length marked ≤ length bytes
 behind_short bytes marked marked_is = omega (arith, ap length marked_is, left_short event_in_front events_shorten bytes bytes)
+
+-- ---- the first of them
+
+all_take : {A : Type 0} (Is : A → Type 0) (n : ℕ) (xs : List A) → AllByRecursion Is xs → AllByRecursion Is (take n xs)
+all_take Is zero xs are = tt
+all_take Is (suc n) [] are = tt
+all_take Is (suc n) (x ∷ xs) are = (are.0, all_take Is n xs are.1)
+
+-- bytes as those of the first items and those of the others
+parts_spelled : {A : Type 0} (spell : A → List ℕ) (xs : List A) (n : ℕ) (bytes rest : List ℕ) → bytes ≡ flat_map spell xs → rest ≡ flat_map spell (drop n xs) → bytes ≡ flat_map spell (take n xs) ++ rest
+parts_spelled spell xs n bytes rest spelled left =
+    spelled ∙ ap (flat_map spell) (sym (take-append-drop n xs)) ∙ flat_map-append spell (take n xs) (drop n xs) ∙ ap (λ (x : List ℕ). flat_map spell (take n xs) ++ x) (sym left)
+
+short_spelled : {A : Type 0} (spell : A → List ℕ) (xs : List A) (n : ℕ) (bytes rest : List ℕ) → bytes ≡ flat_map spell xs → rest ≡ flat_map spell (drop n xs) → length rest ≤ length bytes
+short_spelled spell xs n bytes rest spelled left = omega (arith, ap length (parts_spelled spell xs n bytes rest spelled left), length-append (flat_map spell (take n xs)) rest)
+
+front_spelled : {A : Type 0} (spell : A → List ℕ) (xs : List A) (n : ℕ) (bytes rest : List ℕ) → bytes ≡ flat_map spell xs → rest ≡ flat_map spell (drop n xs) → take (length bytes - length rest) bytes ≡ flat_map spell (take n xs)
+front_spelled spell xs n bytes rest spelled left =
+    let front = flat_map spell (take n xs) in
+    let parts = parts_spelled spell xs n bytes rest spelled left in
+    let long : length front ≡ length bytes - length rest = omega (arith, ap length parts, length-append front rest) in
+    ap (take (length bytes - length rest)) parts ∙ take_at front rest (length bytes - length rest) long
+
+pub first_events : (bytes rest : List ℕ) (n : ℕ) → HaveEvents bytes → HaveEvents rest → events_in rest ≡ drop n (events_in bytes) → AreEvents (take n (events_in bytes)) (take (length bytes - length rest) bytes)
+first_events bytes rest n have others left = record {
+  within = all_take IsEvent n (events_in bytes) (subst (AllByRecursion IsEvent) (sym (events_are have.0 bytes have.1)) have.1.within);
+  spelled = front_spelled event_bytes (events_in bytes) n bytes rest (run_bytes bytes have) (run_bytes rest others ∙ ap events_bytes left);
+}
+
+pub first_windows : (bytes rest : List ℕ) (n : ℕ) → HaveWindows bytes → HaveWindows rest → windows_in rest ≡ drop n (windows_in bytes) → AreWindows (take n (windows_in bytes)) (take (length bytes - length rest) bytes)
+first_windows bytes rest n have others left = record {
+  within = all_take IsSpan n (windows_in bytes) (subst (AllByRecursion IsSpan) (sym (windows_are have.0 bytes have.1)) have.1.within);
+  spelled = front_spelled window_bytes (windows_in bytes) n bytes rest (windows_spelled bytes have) (windows_spelled rest others ∙ ap windows_bytes left);
+}
+
+-- one more is taken of the first ones
+pub skip_next : {A : Type 0} (old now next : List A) (x : A) (left count : ℕ) → left ≤ count → 0 < left → now ≡ drop (count - left) old → now ≡ x ∷ next → next ≡ drop (count - (left - 1)) old
+skip_next old now next x left count within some behind first =
+    let one_more : count - left + 1 ≡ count - (left - 1) = omega arith in
+    sym (ap (drop 1) (sym behind ∙ first)) ∙ drop-drop 1 (count - left) old ∙ ap (λ n. drop n old) one_more
+
+-- nothing is left
+pub skip_end : {A : Type 0} (old now next : List A) (left count : ℕ) → left ≤ count → now ≡ drop (count - left) old → now ≡ [] → next ≡ [] → next ≡ drop count old
+skip_end old now next left count within behind none nothing =
+    let rest : count - left + left ≡ count = omega arith in
+    nothing ∙ sym (drop-nil left) ∙ ap (drop left) (sym none ∙ behind) ∙ drop-drop left (count - left) old ∙ ap (λ n. drop n old) rest
+
+-- the others are no longer than all
+pub events_short : (bytes rest : List ℕ) (n : ℕ) → HaveEvents bytes → HaveEvents rest → events_in rest ≡ drop n (events_in bytes) → length rest ≤ length bytes
+events_short bytes rest n have others left = short_spelled event_bytes (events_in bytes) n bytes rest (run_bytes bytes have) (run_bytes rest others ∙ ap events_bytes left)
+
+pub windows_short : (bytes rest : List ℕ) (n : ℕ) → HaveWindows bytes → HaveWindows rest → windows_in rest ≡ drop n (windows_in bytes) → length rest ≤ length bytes
+windows_short bytes rest n have others left = short_spelled window_bytes (windows_in bytes) n bytes rest (windows_spelled bytes have) (windows_spelled rest others ∙ ap windows_bytes left)

@@ -1,4 +1,4 @@
-ghost use Rattle.std.specs.Prelude.{◌≡◌, ℕ, List, [], ◌∷◌, option_map, MatchOption, IfSome};
+ghost use Rattle.std.specs.Prelude.{◌≡◌, ℕ, List, [], ◌∷◌, take, drop, option_map, MatchOption, IfSome};
 ghost use Rattle.bus_types.specs.Window.{Span, IsSpan};
 ghost use Rattle.event_codec.specs.Bytes.{Event, event_bytes, window_bytes};
 ghost use Rattle.event_codec.specs.Streams.{windows_bytes};
@@ -53,6 +53,30 @@ impl<'a> Run<'a> {
         let (view, own, behind) = EventView::split(self.bytes)?;
         self.bytes = behind;
         Some((view, own))
+    }
+
+    // Takes the first so many events, or those there are.
+    fn skip(&mut self, count: usize)
+        ensures { self.new ≡ drop count self.old }
+    {
+        let mut left = count;
+        while left > 0 {
+            let Some(_) = self.next() else {
+                return;
+            };
+            left -= 1;
+        }
+    }
+
+    /// The first so many events, or those there are. They are read to their end.
+    pub fn first(&self, count: usize) -> Run<'a>
+        ensures { result ≡ take count self.now }
+    {
+        let mut rest = Run { bytes: self.bytes };
+        rest.skip(count);
+        Run {
+            bytes: &self.bytes[..self.bytes.len() - rest.bytes.len()],
+        }
     }
 }
 
@@ -178,6 +202,30 @@ impl<'a> Windows<'a> {
         let (window, behind) = split_window(self.bytes)?;
         self.bytes = behind;
         Some(window)
+    }
+
+    // Takes the first so many windows, or those there are.
+    fn skip(&mut self, count: usize)
+        ensures { self.new ≡ drop count self.old }
+    {
+        let mut left = count;
+        while left > 0 {
+            let Some(_) = self.next() else {
+                return;
+            };
+            left -= 1;
+        }
+    }
+
+    /// The first so many windows, or those there are. They are read to their end.
+    pub fn first(&self, count: usize) -> Windows<'a>
+        ensures { result ≡ take count self.now }
+    {
+        let mut rest = Windows { bytes: self.bytes };
+        rest.skip(count);
+        Windows {
+            bytes: &self.bytes[..self.bytes.len() - rest.bytes.len()],
+        }
     }
 
     /// The SCN of the next window. `None` comes exactly at the end.
