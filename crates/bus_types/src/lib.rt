@@ -6,6 +6,7 @@
 mod accepts;
 mod change;
 mod changes;
+mod count;
 mod fault;
 mod fnv;
 mod laws;
@@ -19,6 +20,7 @@ mod window;
 pub use accepts::{Accepts, Everything};
 pub use change::{Change, Key, RowName};
 pub use changes::Changes;
+pub use count::Count;
 pub use fault::{Failed, NoMemory};
 pub use fnv::fnv1a;
 pub use laws::{
@@ -32,6 +34,3 @@ pub use row::{Cursor, MarkText, Row, Rows};
 pub use text::{cut_text, read_number};
 pub use timeline::{Timeline, Untold};
 pub use window::{Window, WindowFault, copy_changes};
-
-#[cfg(test)]
-mod tests;
