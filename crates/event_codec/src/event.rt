@@ -1,9 +1,9 @@
-ghost use Rattle.std.specs.Prelude.{◌≡◌, ◌+◌, ◌≤◌, ℕ, length, IfSome, IfNone, IfOk, option_map};
+ghost use Rattle.std.specs.Prelude.{◌≡◌, ◌+◌, ◌≤◌, ℕ, length, IfSome, IfNone, IfOk, OnErr, option_map};
 ghost use Rattle.event_codec.specs.Bytes.{Event, IsEvent, event_bytes, StandsAt};
 
 use crate::head::{HEAD_SIZE, Head, PUT};
 use crate::number::tail;
-use bus_types::{Change, Key, NoMemory, Payload};
+use bus_types::{Change, Key, NoMemory, Payload, PayloadFault};
 use std::alloc::Global;
 
 /// An event where it stands in bytes.
@@ -59,21 +59,27 @@ impl<'a> EventView<'a> {
 
     // What the event puts, if it is a put.
     fn put(&self, alloc: Global) -> Result<Option<Payload>, NoMemory>
-        ensures { IfOk result (λ put. put ≡ (event_of self.now).change.put) }
+        requires { IsView self.now }
+        ensures ok { IfOk result (λ put. put ≡ (event_of self.now).change.put) }
+        ensures err { OnErr result (self.now.kind ≡ 1) }
     {
         if self.kind != PUT {
             return Ok(None);
         }
-        let Ok(payload) = Payload::new(alloc, self.payload) else {
-            return Err(NoMemory);
-        };
-        Ok(Some(payload))
+        match Payload::new(alloc, self.payload) {
+            Ok(payload) => Ok(Some(payload)),
+            Err(PayloadFault::NoMemory) => Err(NoMemory),
+            Err(PayloadFault::TooLong) => unreachable!(),
+        }
     }
 
-    /// The change that the event is, with a copy of its payload. Want of memory is its only fault, as long as the
-    /// payload is within its limit.
+    /// The change that the event is, with a copy of its payload. It is asked for an event as [`EventView::at`] gives it.
+    /// Want of memory is its only fault, and comes only where there is a payload to copy: never for a delete, and never
+    /// because of the payload's length.
     pub fn change(&self, alloc: Global) -> Result<Change, NoMemory>
-        ensures { IfOk result (λ change. change ≡ (event_of self.now).change) }
+        requires event { IsView self.now }
+        ensures ok { IfOk result (λ change. change ≡ (event_of self.now).change) }
+        ensures err { OnErr result (self.now.kind ≡ 1) }
     {
         Ok(Change {
             source: self.source,
