@@ -5,6 +5,7 @@
 
 mod accepting;
 mod fault;
+mod faults;
 mod filter;
 mod reading;
 mod rows;
