@@ -5,12 +5,14 @@
 
 mod change;
 mod fault;
+mod laws;
 mod line;
 mod name;
 mod reading;
 mod writing;
 
 pub use fault::LineFault;
+pub use laws::{the_limits_of_inputs, the_limits_of_lines};
 pub use line::Line;
 pub use name::Name;
 pub use reading::read_line;

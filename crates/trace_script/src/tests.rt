@@ -1,5 +1,5 @@
-ghost use Rattle.std.specs.Prelude.{IfOk};
-ghost use Rattle.trace_script.specs.Spelling.{IsInRange};
+ghost use Rattle.std.specs.Prelude.{◌≡◌, true, IfOk};
+ghost use Rattle.trace_script.specs.Spelling.{is_in_range};
 
 use super::*;
 use bus_types::{Change, Changes, Key, NoMemory, Payload};
@@ -234,7 +234,7 @@ fn a_payload_has_at_most_65536_bytes(rt: HostRuntime) -> Result<(), Fail> {
 
 /// What is written of a line behind `> `.
 fn written(alloc: Global, line: &Line) -> Result<Vec<u8>, NoMemory>
-    requires { IsInRange line.now }
+    requires { is_in_range line.now ≡ true }
 {
     let mut out = Vec::from_slice(alloc, b"> ")?;
     write_line(alloc, line, &mut out)?;
@@ -243,7 +243,7 @@ fn written(alloc: Global, line: &Line) -> Result<Vec<u8>, NoMemory>
 
 /// A commit of a put and a delete.
 fn put_and_delete(alloc: Global) -> Result<Line, NoMemory>
-    ensures { IfOk result IsInRange }
+    ensures { IfOk result (λ line. is_in_range line ≡ true) }
 {
     let mut changes = Vec::new(alloc);
     changes.push(Change {
