@@ -17,3 +17,4 @@ pub mod Streams
 pub mod Readings
 pub mod ItemsBack
 pub mod Parsings
+pub mod Lendings

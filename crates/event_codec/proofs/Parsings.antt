@@ -1,24 +1,24 @@
 -- Events and windows that were spelled are read back.
-use Rattle.std.proofs.Common.{◌≡◌, ℕ, ◌+◌, ◌<◌, ◌≤◌, Bool, true, false, cond, eqb, ltb, ◌&&◌, ◌||◌, List, [], ◌∷◌, ◌++◌, length, take, drop, Option, Some, None, option_and_then, refl, sym, ap, subst, ◌∙◌, append_assoc, arith}
-use Rattle.std.specs.Prelude.{map, flat_map, option_map}
+use Rattle.std.proofs.Common.{◌≡◌, ℕ, ◌+◌, ◌<◌, ◌≤◌, Bool, true, false, cond, ltb, List, [], ◌∷◌, ◌++◌, length, drop, Option, Some, None, option_and_then, refl, sym, ap, ◌∙◌, append_assoc, arith}
+use Rattle.std.specs.Prelude.{map, option_map}
 use Rattle.std.specs.List.{AllByRecursion}
 use Rattle.std.proofs.lemmas.Bool.{ltb-false}
-use Rattle.std.proofs.lemmas.List.{length-append, length-drop, drop_at, append-nil, nil_from_length}
-use Rattle.std.proofs.lemmas.Option.{same_Some, none-some, option_and_then_some}
+use Rattle.std.proofs.lemmas.List.{length-drop, drop_at, append-nil}
+use Rattle.std.proofs.lemmas.Option.{same_Some, option_and_then_some}
 use Rattle.bus_types.specs.declared.change.Change.{Change}
 use Rattle.bus_types.specs.declared.limits.TheConstants.{MAX_SCN}
 use Rattle.bus_types.specs.Change.{AreChanges}
 use Rattle.bus_types.specs.Window.{Span, IsSpan}
 use Rattle.event_codec.specs.declared.head.Head.{Head}
-use Rattle.event_codec.specs.Bytes.{Event, IsEvent, event_bytes, IsMark, mark_bytes, changes_bytes, window_bytes}
-use Rattle.event_codec.specs.Reading.{head_front, checked, head_of, is_sized, with_payload, event_front, mark_front}
+use Rattle.event_codec.specs.Bytes.{Event, IsEvent, event_bytes, mark_bytes, changes_bytes, window_bytes}
+use Rattle.event_codec.specs.Reading.{head_front, checked, head_of, with_payload, event_front, mark_front}
 use Rattle.event_codec.specs.Streams.{windows_bytes}
-use Rattle.event_codec.specs.Parsing.{in_front, read_within, read_all, event_with, event_in_front, events_in, events_bytes, AreEvents, HaveEvents, window_with, closed_by_mark, window_in_front, windows_in, AreWindows, HaveWindows}
+use Rattle.event_codec.specs.Parsing.{read_within, read_all, event_with, event_in_front, events_in, events_bytes, AreEvents, window_with, closed_by_mark, window_in_front, windows_in, AreWindows}
 use Rattle.event_codec.proofs.Heads.{some_else}
 use Rattle.event_codec.proofs.EventBytes.{head_and_payload, event_again, put_joined, payload_length}
 use Rattle.event_codec.proofs.Marks.{mark_again}
-use Rattle.event_codec.proofs.Begun.{event, is_event, change_positive}
-use Rattle.event_codec.proofs.ItemsBack.{Shortens, read_stop, read_step, left_short, read_back}
+use Rattle.event_codec.proofs.Begun.{event, is_event}
+use Rattle.event_codec.proofs.ItemsBack.{Shortens, left_short, read_back}
 
 -- what a mapped option was
 mapped : {A B : Type 0} (f : A → B) (o : Option A) (y : B) → option_map f o ≡ Some y → (x : A) × (o ≡ Some x) × (f x ≡ y)

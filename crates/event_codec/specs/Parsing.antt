@@ -1,11 +1,11 @@
 -- Bytes read from their front: an event, a window, and as many of them as stand one after the other. Each function is total,
 -- and reads back what was spelled.
-use Rattle.std.specs.Prelude.{◌≡◌, ℕ, ◌+◌, ◌==◌, if◌then◌else◌, List, [], ◌∷◌, ◌++◌, length, drop, map, flat_map, Option, Some, None, option_map, option_and_then}
+use Rattle.std.specs.Prelude.{◌≡◌, ℕ, ◌+◌, ◌==◌, if◌then◌else◌, List, [], ◌∷◌, length, drop, map, flat_map, Option, Some, None, option_map}
 use Rattle.std.specs.List.{AllByRecursion}
 use Rattle.bus_types.specs.declared.change.Key.TheVariants.{Long}
 use Rattle.bus_types.specs.Window.{Span, IsSpan}
 use Rattle.event_codec.specs.declared.head.Head.{Head}
-use Rattle.event_codec.specs.Bytes.{Event, IsEvent, event_bytes}
+use Rattle.event_codec.specs.Bytes.{Event, IsEvent, event_bytes, window_bytes}
 use Rattle.event_codec.specs.Reading.{event_front, mark_front}
 use Rattle.event_codec.specs.Streams.{windows_bytes}
 
@@ -79,3 +79,62 @@ pub record AreWindows (windows : List Span) (bytes : List ℕ) : Type 0 where
 
 abbrev pub HaveWindows : List ℕ → Type 0
 HaveWindows bytes = (windows : List Span) × AreWindows windows bytes
+
+-- ---- the items of windows, one by one
+
+abbrev pub first_scn : List Span → Option ℕ
+first_scn [] = None
+first_scn (w ∷ ws) = Some w.scn
+
+-- the events of a window
+abbrev pub window_events : Span → List Event
+window_events w = map (λ c. record { scn = w.scn; change = c }) w.changes
+
+abbrev pub first_of : {A : Type 0} → List A → Option A
+first_of [] = None
+first_of (x ∷ xs) = Some x
+
+-- the first event of the first window, if it has one
+abbrev pub first_event : List Span → Option Event
+first_event [] = None
+first_event (w ∷ ws) = first_of (window_events w)
+
+-- the windows without it
+abbrev pub behind_event : List Span → List Span
+behind_event [] = []
+behind_event (w ∷ ws) = record { scn = w.scn; prev = w.prev; changes = drop 1 w.changes } ∷ ws
+
+-- the mark of the first window, where it stands in front, since the window has no event
+abbrev pub mark_before : {A B : Type 0} → List A → B → Option B
+mark_before [] mark = Some mark
+mark_before (x ∷ xs) mark = None
+
+abbrev pub first_mark : List Span → Option (ℕ × ℕ)
+first_mark [] = None
+first_mark (w ∷ ws) = mark_before w.changes (w.scn, w.prev)
+
+-- the windows without that one
+abbrev pub others_of : {A : Type 0} → List A → Span → List Span → List Span
+others_of [] w ws = ws
+others_of (x ∷ xs) w ws = w ∷ ws
+
+abbrev pub behind_mark : List Span → List Span
+behind_mark [] = []
+behind_mark (w ∷ ws) = others_of w.changes w ws
+
+-- ---- a window where it stands
+
+abbrev pub window_read : Option (Span × List ℕ) → Span
+window_read None = record { scn = 0; prev = 0; changes = [] }
+window_read (Some x) = x.0
+
+abbrev pub window_of : List ℕ → Span
+window_of bytes = window_read (window_in_front bytes)
+
+-- the bytes are a window with these SCNs
+pub record IsWindow (number before : ℕ) (bytes : List ℕ) : Type 0 where
+  pub window : Span
+  pub within : IsSpan window
+  pub spelled : bytes ≡ window_bytes window
+  pub scn : number ≡ window.scn
+  pub prev : before ≡ window.prev

@@ -1,4 +1,4 @@
-ghost use Rattle.std.specs.Prelude.{◌≡◌, ◌+◌, ◌≤◌, ℕ, length, IfSome, IfNone, IfOk, OnErr, option_map};
+ghost use Rattle.std.specs.Prelude.{◌≡◌, ◌+◌, ◌≤◌, ℕ, length, IfSome, IfNone, IfOk, OnErr, MatchOption, Some, None, option_map};
 ghost use Rattle.event_codec.specs.Bytes.{Event, IsEvent, event_bytes, StandsAt};
 
 use crate::head::{HEAD_SIZE, Head, PUT};
@@ -25,6 +25,7 @@ impl<'a> EventView<'a> {
     ghost use Rattle.event_codec.specs.View.{event_of, IsView};
     ghost use Rattle.event_codec.specs.Reading.{event_front};
     ghost use Rattle.event_codec.specs.Parts.{parts};
+    ghost use Rattle.event_codec.specs.Parsing.{event_in_front};
 
     // The event that bytes begin with.
     #[tactic(auto, unfolding(crate::specs::Reading::event_front))]
@@ -45,6 +46,17 @@ impl<'a> EventView<'a> {
             key: head.key,
             payload: &rest[..len],
         })
+    }
+
+    // The event that bytes begin with, its own bytes, and those behind it.
+    pub(crate) fn split(bytes: &'a [u8]) -> Option<(EventView<'a>, &'a [u8], &'a [u8])>
+        ensures found { MatchOption result (event_in_front bytes.now ≡ None) (λ x. event_in_front bytes.now ≡ Some (event_of x.0, x.2.now)) }
+        ensures view { IfSome result (λ x. IsView x.0) }
+        ensures own { IfSome result (λ x. x.1.now ≡ event_bytes (event_of x.0)) }
+    {
+        let view = EventView::front(bytes)?;
+        let (own, behind) = bytes.split_at(HEAD_SIZE + view.payload.len());
+        Some((view, own, behind))
     }
 
     /// The event that begins at a place, and the place after it. `None` comes exactly where no event stands there
