@@ -39,7 +39,8 @@ pub record Kept (old now : KeeperState) : Type 0 where
   pub calls : BothTold (λ m n. m ≤ n) old.calls now.calls
   pub faults : old.faults ≤ now.faults
 
-same_calls : (a : Option ℕ) → BothTold (λ m n. m ≤ n) a a
+-- a number of calls that stays is never less
+pub same_calls : (a : Option ℕ) → BothTold (λ m n. m ≤ n) a a
 same_calls None = tt
 same_calls (Some x) = omega arith
 
