@@ -1,6 +1,8 @@
-ghost use Rattle.std.specs.Prelude.{◌≡◌, ◌+◌, ◌<◌, ◌≤◌, ◌↔◌, ℕ, false, length, codes, Some, None};
-ghost use Rattle.partition_filter.specs.Selection.Selection.{All};
-ghost use Rattle.trace_script.specs.declared.line.Line.TheVariants.{Relay, Feed, Poll, Stream, Log, Apply, Trim};
+ghost use Rattle.std.specs.Prelude.{◌≡◌, ◌+◌, ◌<◌, ◌≤◌, ◌↔◌, ℕ, true, false, [], ◌∷◌, ◌++◌, length, codes, Some, None};
+ghost use Rattle.bus_types.specs.declared.change.Key.TheVariants.{Long};
+ghost use Rattle.partition_filter.specs.Selection.Selection.{All, Rules};
+ghost use Rattle.partition_filter.specs.declared.rule.Keys.TheVariants.{Every};
+ghost use Rattle.trace_script.specs.declared.line.Line.TheVariants.{Blank, Relay, Consumer, Commit, Feed, Poll, Show, Crash, Stop, Stream, Log, Apply, Trim, RestartBoot};
 ghost use Rattle.trace_script.specs.Input.{RawLine, is_too_long};
 ghost use Rattle.trace_script.specs.Lines.{line_of};
 
@@ -43,4 +45,41 @@ pub fn the_limits_of_lines()
 /// 4,194,304 bytes, and the input up to its end at most 16,777,216.
 pub fn the_limits_of_inputs()
     ensures { (count used : ℕ) (line : RawLine) → (is_too_long count used line ≡ false) ↔ ((count < 1000000) × (length line.text ≤ 4194304) × (used + line.size ≤ 16777216)) }
+{}
+
+/// What some texts are read as, by computation from the grammar alone.
+pub fn worked_lines()
+    ensures empty { line_of (codes "") ≡ Some Blank }
+    ensures comment { line_of (codes "# a  comment") ≡ Some Blank }
+    ensures consumer { line_of (codes "consumer c_1 0*") ≡ Some (Consumer (codes "c_1") (Rules ((record { source = 0; keys = Every }) ∷ []))) }
+    ensures commit { line_of (codes "commit 9 1/2=0aff 0/3- 4/5=") ≡ Some (Commit 9 ((record { source = 1; key = Long 2; put = (Some (10 ∷ 255 ∷ [])) }) ∷ (record { source = 0; key = Long 3; put = None }) ∷ (record { source = 4; key = Long 5; put = (Some []) }) ∷ [])) }
+    ensures show { line_of (codes "show c") ≡ Some (Show (codes "c")) }
+    ensures crash { line_of (codes "crash c") ≡ Some (Crash (codes "c")) }
+    ensures stop_before { line_of (codes "stop c before") ≡ Some (Stop (codes "c") false) }
+    ensures stop_after { line_of (codes "stop c after") ≡ Some (Stop (codes "c") true) }
+    ensures restart { line_of (codes "restart boot") ≡ Some RestartBoot }
+    ensures carriage_return { line_of (codes "show c" ++ 13 ∷ []) ≡ None }
+    ensures commented_return { line_of (codes "#" ++ 13 ∷ []) ≡ None }
+    ensures space_first { line_of (codes " show c") ≡ None }
+    ensures space_last { line_of (codes "show c ") ≡ None }
+    ensures two_spaces { line_of (codes "show  c") ≡ None }
+    ensures space_alone { line_of (codes " ") ≡ None }
+    ensures no_name { line_of (codes "show") ≡ None }
+    ensures more_words { line_of (codes "show c d") ≡ None }
+    ensures longest_name { line_of (codes "show abcdefghijklmno_") ≡ Some (Show (codes "abcdefghijklmno_")) }
+    ensures longer_name { line_of (codes "show abcdefghijklmnop_") ≡ None }
+    ensures upper_case_name { line_of (codes "show C") ≡ None }
+    ensures upper_case_word { line_of (codes "Show c") ≡ None }
+    ensures other_word { line_of (codes "look c") ≡ None }
+    ensures no_change { line_of (codes "commit 1") ≡ None }
+    ensures leading_zero { line_of (codes "commit 01 1/1-") ≡ None }
+    ensures signed { line_of (codes "feed +1") ≡ None }
+    ensures odd_digits { line_of (codes "commit 1 1/1=0") ≡ None }
+    ensures upper_case_digits { line_of (codes "commit 1 1/1=0A") ≡ None }
+    ensures no_key { line_of (codes "commit 1 1/-") ≡ None }
+    ensures later_source { line_of (codes "commit 1 65536/1-") ≡ None }
+    ensures greater_key { line_of (codes "commit 1 1/18446744073709551616-") ≡ None }
+    ensures other_filter { line_of (codes "consumer c some") ≡ None }
+    ensures other_stop { line_of (codes "stop c later") ≡ None }
+    ensures other_restart { line_of (codes "restart relay") ≡ None }
 {}
