@@ -8,4 +8,6 @@ pub mod Frames
 pub mod Items
 pub mod Streams
 pub mod Reply
+pub mod Questions
+pub mod Chunks
 pub mod Parsing
