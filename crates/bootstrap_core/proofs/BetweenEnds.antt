@@ -15,11 +15,11 @@ use Rattle.bootstrap_core.specs.Trimming.{halted_at}
 
 rise_low : (scn high : ℕ) (run : List Span) → RiseBetween scn high run → scn ≤ end_from scn run
 rise_low scn high [] r = omega arith
-rise_low scn high (w ∷ ws) r = omega (arith, r.1, rise_low w.scn high ws r.3)
+rise_low scn high (w ∷ ws) r = omega (arith, r.0, rise_low w.scn high ws r.2)
 
 rise_high : (scn high : ℕ) (run : List Span) → scn ≤ high → RiseBetween scn high run → end_from scn run ≤ high
 rise_high scn high [] h r = h
-rise_high scn high (w ∷ ws) h r = rise_high w.scn high ws r.2 r.3
+rise_high scn high (w ∷ ws) h r = rise_high w.scn high ws r.1 r.2
 
 -- a log that was only read has the same ends
 pub between_read : (log log' : LogState) (m : BootMark) → SameLog log log' → IsBetween log m → IsBetween log' m

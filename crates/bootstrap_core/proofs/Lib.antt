@@ -6,5 +6,7 @@ pub mod StretchEnds
 pub mod NewestRead
 pub mod StandingMoves
 pub mod BetweenEnds
+pub mod CrashBounds
+pub mod BaseFloors
 pub mod SettingBases
 pub mod TrimSteps

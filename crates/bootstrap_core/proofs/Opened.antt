@@ -4,6 +4,7 @@ use Rattle.std.specs.Prelude.{IsSome, IfSome}
 use Rattle.bus_types.specs.Window.{Span}
 use Rattle.bus_stores.specs.Keeper.{KeeperState, Content, SameStore}
 use Rattle.bus_stores.specs.Log.{LogState}
+use Rattle.bus_stores.proofs.Held.{told_on}
 use Rattle.snapshot_applier.specs.declared.boot.BootMark.{BootMark}
 use Rattle.snapshot_applier.specs.BootMark.{IsBootStored}
 use Rattle.snapshot_applier.proofs.BootTexts.{one_boot}
@@ -20,13 +21,14 @@ one_mark None ws m n told a b = absurd (cc told)
 one_mark (Some c) ws m n told a b = one_stored c.mark m n a b.stored
 
 -- it stands for a timeline for which its log and its keeper stood, at the same numbers
-pub stands_again : (ws : List Span) (log : LogState) (keeper now : KeeperState) (m n : BootMark) → Stores keeper m → SameStore keeper now → StandsForBoot ws log keeper n → IsSome keeper.content → (m ≡ n) × StandsForBoot ws log now m
+pub stands_again : (ws : List Span) (log : LogState) (keeper now : KeeperState) (m n : BootMark) → Stores now m → SameStore keeper now → StandsForBoot ws log keeper n → IsSome now.content → (m ≡ n) × StandsForBoot ws log now m
 stands_again ws log keeper now m n stores same stands told =
-    let is = one_mark keeper.content ws m n told stores stands.table in
+    let table = told_on (HoldsTable ws n) keeper.content now.content same.content stands.table in
+    let is = one_mark now.content ws m n told stores table in
     let moved : StandsForBoot ws log now n = record {
       lawful = stands.lawful;
       between = stands.between;
       stretch = stands.stretch;
-      table = subst (λ content. IfSome content (HoldsTable ws n)) (sym same.content) stands.table;
+      table = table;
     } in
     (is, subst (λ (mark : BootMark). StandsForBoot ws log now mark) (sym is) moved)

@@ -11,7 +11,8 @@ use Rattle.bus_types.proofs.Floors.{between-after}
 use Rattle.bus_stores.specs.declared.keeper.StoreFault.TheVariants as stores
 use Rattle.bus_stores.specs.declared.boot_fault.BootFault.{BootFault}
 use Rattle.bus_stores.specs.declared.boot_fault.BootFault.TheVariants.{LogFailed, StoreFailed, Halted, NoMemory}
-use Rattle.bus_stores.specs.Keeper.{Content, KeeperState, Stopped, content_after, move_of, moved}
+use Rattle.bus_stores.specs.Keeper.{Content, KeeperState, Stopped, TellsOnly, content_after, move_of, moved}
+use Rattle.bus_stores.proofs.Held.{told_on, carried_told}
 use Rattle.bus_stores.specs.Taking.{LeavesBy}
 use Rattle.bus_stores.specs.Log.{LogState, IsLog, Holds, SameLog, Dropped}
 use Rattle.snapshot_applier.specs.declared.boot.BootMark.{BootMark}
@@ -38,14 +39,6 @@ if_told P told x e h = subst (λ o. IfSome o P) e h
 told_if : {A : Type 0} (P : A → Type 0) (told : Option A) (x : A) → told ≡ Some x → P x → IfSome told P
 told_if P told x e h = subst (λ o. IfSome o P) (sym e) h
 
-mapped_if : {A : Type 0} (P Q : A → Type 0) (f : A → A) (x : Option A) → ((a : A) → P a → Q (f a)) → IfSome x P → IfSome (option_map f x) Q
-mapped_if P Q f None h p = tt
-mapped_if P Q f (Some a) h p = h a p
-
--- what is told after it was mapped
-pub moved_if : {A : Type 0} (P Q : A → Type 0) (f : A → A) (old new : Option A) → ((a : A) → P a → Q (f a)) → new ≡ option_map f old → IfSome old P → IfSome new Q
-moved_if P Q f old new h e p = subst (λ o. IfSome o Q) (sym e) (mapped_if P Q f old h p)
-
 -- ---- what a fault count leaves
 
 -- only the log's count changed
@@ -61,12 +54,12 @@ stands_with : (ws : List Span) (log : LogState) (old new : KeeperState) (m : Boo
 stands_with ws log old new m s h = record { lawful = s.lawful; between = s.between; stretch = s.stretch; table = h }
 
 -- the keeper's content is the same
-pub stands_kept : (ws : List Span) (log : LogState) (old new : KeeperState) (m : BootMark) → new.content ≡ old.content → StandsForBoot ws log old m → StandsForBoot ws log new m
-stands_kept ws log old new m same s = stands_with ws log old new m s (subst (λ c. IfSome c (HoldsTable ws m)) (sym same) s.table)
+pub stands_kept : (ws : List Span) (log : LogState) (old new : KeeperState) (m : BootMark) → TellsOnly old.content new.content → StandsForBoot ws log old m → StandsForBoot ws log new m
+stands_kept ws log old new m same s = stands_with ws log old new m s (told_on (HoldsTable ws m) old.content new.content same s.table)
 
 -- a commit met a stop before it counted
-stands_unmoved : (ws : List Span) (log : LogState) (old new : KeeperState) (m : BootMark) → new.content ≡ option_map (λ c. c) old.content → StandsForBoot ws log old m → StandsForBoot ws log new m
-stands_unmoved ws log old new m e s = stands_with ws log old new m s (moved_if (HoldsTable ws m) (HoldsTable ws m) (λ c. c) old.content new.content (λ c h. h) e s.table)
+stands_unmoved : (ws : List Span) (log : LogState) (old new : KeeperState) (m : BootMark) → TellsOnly (option_map (λ c. c) old.content) new.content → StandsForBoot ws log old m → StandsForBoot ws log new m
+stands_unmoved ws log old new m e s = stands_with ws log old new m s (carried_told (HoldsTable ws m) (HoldsTable ws m) (λ c. c) old.content new.content e (λ c h. h) s.table)
 
 -- ---- the table moves
 
@@ -104,11 +97,11 @@ table_moved ws m next batch e lawful c h = record { rows = ap (λ rows. rows_aft
 
 -- the table after the commit of such windows
 run_table : (ws : List Span) (m : BootMark) (high : ℕ) (run : List Span) (old new : KeeperState) → RunsOn ws m high run → LeavesBy {X = Unit {0}} (commit_of m run) old new (Ok tt) → IfSome old.content (HoldsTable ws m) → IfSome new.content (HoldsTable ws (applied_after m run))
-run_table ws m high [] old new r same h = subst (λ c. IfSome c (HoldsTable ws m)) (sym same.content) h
+run_table ws m high [] old new r same h = told_on (HoldsTable ws m) old.content new.content same.content h
 run_table ws m high (w ∷ rest) old new r met h =
     let next = applied_after m (w ∷ rest) in
     let batch = flat_map (λ (v : Span). v.changes) (w ∷ rest) in
-    moved_if (HoldsTable ws m) (HoldsTable ws next) (content_after None (move_of false batch (boot_mark_text next))) old.content new.content (table_moved ws m next batch r.rows r.lawful) met.content h
+    carried_told (HoldsTable ws m) (HoldsTable ws next) (content_after None (move_of false batch (boot_mark_text next))) old.content new.content met.content (table_moved ws m next batch r.rows r.lawful) h
 
 stands_on : (ws : List Span) (log : LogState) (old new : KeeperState) (m : BootMark) (run : List Span) → RunsOn ws m log.high run → StandsForBoot ws log old m → IfSome new.content (HoldsTable ws (applied_after m run)) → StandsForBoot ws log new (applied_after m run)
 stands_on ws log old new m run r s h = record {
@@ -138,7 +131,7 @@ unmade_stands ws log old new m (w ∷ rest) r (inl met) s =
 unmade_stands ws log old new m (w ∷ rest) r (inr met) s =
     let next = applied_after m (w ∷ rest) in
     let batch = flat_map (λ (v : Span). v.changes) (w ∷ rest) in
-    (next, stands_on ws log old new m (w ∷ rest) r s (moved_if (HoldsTable ws m) (HoldsTable ws next) (moved (move_of false batch (boot_mark_text next))) old.content new.content (table_moved ws m next batch r.rows r.lawful) met.content s.table))
+    (next, stands_on ws log old new m (w ∷ rest) r s (carried_told (HoldsTable ws m) (HoldsTable ws next) (moved (move_of false batch (boot_mark_text next))) old.content new.content met.content (table_moved ws m next batch r.rows r.lawful) s.table))
 
 -- after a call of the applier that failed, it stands at the numbers before the commit or after
 pub refused_stands : (ws : List Span) (log log' : LogState) (old new : KeeperState) (m : BootMark) (most : ℕ) (fault : BootFault) → IsTimeline ws → IsLog log → TellsWindows log → SameLog log log' → Applies (Err fault) m most log log' old new → StandsForBoot ws log old m → (mark : BootMark) × StandsForBoot ws log' new mark
@@ -172,7 +165,7 @@ base_on ws log log' store m scn base l told r s =
     }
 
 -- a new base was committed
-stands_based : (ws : List Span) (log : LogState) (old new : KeeperState) (m : BootMark) (base : ℕ) → BaseOn ws m base → new.content ≡ option_map (moved (base_move (based m base))) old.content → StandsForBoot ws log old m → StandsForBoot ws log new (based m base)
+stands_based : (ws : List Span) (log : LogState) (old new : KeeperState) (m : BootMark) (base : ℕ) → BaseOn ws m base → TellsOnly (option_map (moved (base_move (based m base))) old.content) new.content → StandsForBoot ws log old m → StandsForBoot ws log new (based m base)
 stands_based ws log old new m base b e s = record {
   lawful = record {
     applied = b.lawful.order;
@@ -183,7 +176,7 @@ stands_based ws log old new m base b e s = record {
   };
   between = record { low = omega (arith, s.between.low, b.later); order = b.lawful.order; high = s.between.high };
   stretch = s.stretch;
-  table = moved_if (HoldsTable ws m) (HoldsTable ws (based m base)) (moved (base_move (based m base))) old.content new.content (table_moved ws m (based m base) [] refl b.lawful) e s.table;
+  table = carried_told (HoldsTable ws m) (HoldsTable ws (based m base)) (moved (base_move (based m base))) old.content new.content e (table_moved ws m (based m base) [] refl b.lawful) s.table;
 }
 
 dropped_told : (ws : List Span) (scn : ℕ) (log log' : LogState) → log.windows ≡ Some (windows_between log.floor log.high ws) → Dropped scn log log' → log'.windows ≡ Some (windows_between log'.floor log'.high ws)
@@ -233,9 +226,7 @@ set_stands ws (Ok scn) base old new t told b l h s runs =
 set_stands ws (Err LogFailed) base old new t told b l h s runs = absurd (true≢false (sym h.0 ∙ runs))
 set_stands ws (Err StoreFailed) base old new t told b l h s runs = absurd (true≢false (sym h.0 ∙ runs))
 set_stands ws (Err Halted) base old new t told b l h s runs = absurd h
-set_stands ws (Err NoMemory) base old new t told b l (runs', inl p) s runs = same_stands ws old new p s
-set_stands ws (Err NoMemory) base old new t told b l (runs', inr p) s runs =
-    subst (StandsForBoot ws new.log new.keeper) (sym p.0.mark) (stands_read ws old.log new.log new.keeper (based old.mark base) p.1 (later_stands ws base old new b p.0 s))
+set_stands ws (Err NoMemory) base old new t told b l h s runs = same_stands ws old new h.1 s
 
 stopped_stands : (ws : List Span) (base : ℕ) (old new : BootState) → BaseOn ws old.mark base → Stopped (base_move (based old.mark base)) old.keeper new.keeper → Stands ws old → (mark : BootMark) × StandsForBoot ws old.log new.keeper mark
 stopped_stands ws base old new b (inl met) s =

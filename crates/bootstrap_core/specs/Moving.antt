@@ -1,9 +1,9 @@
 -- What the applier and a trim make of a bootstrap.
-use Rattle.std.specs.Prelude.{◌≡◌, ℕ, ◌<◌, ◌≤◌, min, max, true, false, [], None, is_some, IfSome, Result, Ok, Err, ◌⊎◌}
+use Rattle.std.specs.Prelude.{◌≡◌, ℕ, ◌<◌, ◌≤◌, min, max, true, false, [], Some, None, is_some, option_map, IfSome, Result, Ok, Err, ◌⊎◌}
 use Rattle.bus_types.specs.Causes.{Rose}
 use Rattle.bus_types.specs.Timeline.{end_from, windows_between}
 use Rattle.bus_stores.specs.Keeper.{Move, SameStore, Stopped, Meets, move_of}
-use Rattle.bus_stores.specs.Log.{LogState, SameLog, Dropped}
+use Rattle.bus_stores.specs.Log.{LogState, LogRoom, SameLog, Dropped}
 use Rattle.bus_stores.specs.declared.boot_fault.BootFault.{BootFault}
 use Rattle.bus_stores.specs.declared.boot_fault.BootFault.TheVariants.{LogFailed, StoreFailed, Halted, NoMemory}
 use Rattle.snapshot_applier.specs.declared.boot.BootMark.{BootMark}
@@ -69,12 +69,21 @@ pub record SetsLater (base : ℕ) (old new : BootState) : Type 0 where
   pub keeper : Meets None (base_move (based old.mark base)) old.keeper new.keeper
   pub mark : new.mark ≡ based old.mark base
 
--- and then the log dropped windows up to it
+-- a drop of this log drops every window that it may
+abbrev pub DropsEach : LogState → Type 0
+DropsEach log = option_map (λ (room : LogRoom). room.drops_all) log.room ≡ Some true
+
+-- where the log tells its windows, another begins behind the newest of them up to an SCN
+abbrev pub BeginsBehind : ℕ → LogState → LogState → Type 0
+BeginsBehind scn old new = IfSome old.windows (λ held. new.floor ≡ end_from old.floor (windows_between old.floor scn held))
+
+-- and then the log dropped windows up to it, or kept them where memory ran out; a log of which each is dropped drops each
 pub record DropsLater (base : ℕ) (old new : BootState) : Type 0 where
   pub set : SetsLater base old new
   pub read : LogState
   pub same : SameLog old.log read
   pub dropped : Dropped base read new.log
+  pub all : DropsEach old.log → BeginsBehind base old.log new.log
   pub room : new.log.room ≡ old.log.room
 
 -- it is the old one, and nothing was done
@@ -95,4 +104,4 @@ Trims (Ok base) scn old new = (new.halted ≡ false) × FindsBase scn base old �
 Trims (Err LogFailed) scn old new = (new.halted ≡ true) × Rose old.log.faults new.log.faults × (SameParts old new ⊎ ((base : ℕ) × FindsBase scn base old × SetsLater base old new))
 Trims (Err StoreFailed) scn old new = (new.halted ≡ true) × Rose old.keeper.faults new.keeper.faults × ((base : ℕ) × FindsBase scn base old × SetsNone base old new)
 Trims (Err Halted) scn old new = new ≡ old
-Trims (Err NoMemory) scn old new = (new.halted ≡ old.halted) × (SameParts old new ⊎ ((base : ℕ) × FindsBase scn base old × SetsLater base old new × SameLog old.log new.log))
+Trims (Err NoMemory) scn old new = (new.halted ≡ old.halted) × SameParts old new

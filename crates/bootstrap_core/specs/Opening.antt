@@ -13,21 +13,22 @@ use Rattle.bootstrap_core.specs.Boot.{BootState, IsBetween}
 abbrev pub Stores : KeeperState → BootMark → Type 0
 Stores keeper mark = IfSome keeper.content (λ c. IsBootStored c.mark mark)
 
--- a bootstrap was opened: at the stored boot mark, over the same log, and a keeper that was only read
+-- a bootstrap was opened: at the boot mark that is stored, where that is told, over the same log, and a keeper that was only
+-- read
 pub record IsOpened (log : LogState) (keeper : KeeperState) (b : BootState) : Type 0 where
   pub log_same : b.log ≡ log
   pub keeper_same : SameStore keeper b.keeper
-  pub mark : Stores keeper b.mark
+  pub mark : Stores b.keeper b.mark
   pub between : IsBetween log b.mark
   pub runs : b.halted ≡ false
 
--- why none was opened
+-- why none was opened, where the keeper still tells its content
 abbrev pub OpensNot : BootOpen → LogState → KeeperState → KeeperState → Type 0
-OpensNot BadMark log old new = IfSome old.content (λ c. (mark : BootMark) → IsBootStored c.mark mark → ⊥)
+OpensNot BadMark log old new = IfSome new.content (λ c. (mark : BootMark) → IsBootStored c.mark mark → ⊥)
 OpensNot (Ahead applied high) log old new =
-    (high ≡ log.high) × (high < applied) × IfSome old.content (λ c. (mark : BootMark) × IsBootStored c.mark mark × (mark.applied ≡ applied))
+    (high ≡ log.high) × (high < applied) × IfSome new.content (λ c. (mark : BootMark) × IsBootStored c.mark mark × (mark.applied ≡ applied))
 OpensNot (Hole base floor) log old new =
-    (floor ≡ log.floor) × (base < floor) × IfSome old.content (λ c. (mark : BootMark) × IsBootStored c.mark mark × (mark.base ≡ base) × (mark.applied ≤ log.high))
+    (floor ≡ log.floor) × (base < floor) × IfSome new.content (λ c. (mark : BootMark) × IsBootStored c.mark mark × (mark.base ≡ base) × (mark.applied ≤ log.high))
 OpensNot LogFailed log old new = ⊥
 OpensNot StoreFailed log old new = Rose old.faults new.faults × IfSome old.stops (λ s. s.sound ≡ false)
 OpensNot NoMemory log old new = Unit {0}

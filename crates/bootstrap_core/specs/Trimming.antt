@@ -6,11 +6,11 @@ use Rattle.bus_stores.specs.declared.log.LogFault.{LogFault}
 use Rattle.bus_stores.specs.declared.log.LogFault.TheVariants as logs
 use Rattle.bus_stores.specs.declared.keeper.StoreFault.{StoreFault}
 use Rattle.bus_stores.specs.declared.keeper.StoreFault.TheVariants as stores
-use Rattle.bus_stores.specs.Log.{LogState, LogCounts, SameLog, OnFull, first_after}
+use Rattle.bus_stores.specs.Log.{LogState, LogCounts, SameLog, Dropped, OnFull, first_after}
 use Rattle.bus_stores.specs.declared.boot_fault.BootFault.{BootFault}
 use Rattle.bus_stores.specs.declared.boot_fault.BootFault.TheVariants.{LogFailed, StoreFailed, Halted, NoMemory}
 use Rattle.bootstrap_core.specs.Boot.{BootParts, BootState}
-use Rattle.bootstrap_core.specs.Moving.{SameParts, IsNewBase, SetsLater, DropsLater, SetsNone}
+use Rattle.bootstrap_core.specs.Moving.{SameParts, IsNewBase, DropsEach, BeginsBehind, SetsLater, DropsLater, SetsNone}
 
 -- ---- faults
 
@@ -54,10 +54,18 @@ pub record ReadsNewest (base upto : ℕ) (old new : LogState) (result : Result �
   pub is : IfOk result (λ found. IsNewBase old base upto found)
   pub roomy : OnFull result ⊥
 
+-- a log dropped windows up to an SCN, or kept them where memory ran out; or it failed
+abbrev pub DropsOrFails : Result Unit BootFault → ℕ → LogState → LogState → Type 0
+DropsOrFails (Ok done) scn old new = Dropped scn old new × (DropsEach old → BeginsBehind scn old new)
+DropsOrFails (Err LogFailed) scn old new = Rose old.faults new.faults × IfSome old.room (λ room. room.sound ≡ false)
+DropsOrFails (Err StoreFailed) scn old new = ⊥
+DropsOrFails (Err Halted) scn old new = ⊥
+DropsOrFails (Err NoMemory) scn old new = ⊥
+
 -- a call that sets a later base, by its answer
 abbrev pub SetsBase : Result ℕ BootFault → ℕ → BootState → BootState → Type 0
 SetsBase (Ok scn) base old new = (scn ≡ base) × (new.halted ≡ false) × DropsLater base old new
 SetsBase (Err LogFailed) base old new = (new.halted ≡ true) × Rose old.log.faults new.log.faults × SetsLater base old new
 SetsBase (Err StoreFailed) base old new = (new.halted ≡ true) × Rose old.keeper.faults new.keeper.faults × SetsNone base old new
 SetsBase (Err Halted) base old new = ⊥
-SetsBase (Err NoMemory) base old new = (new.halted ≡ false) × (SameParts old new ⊎ (SetsLater base old new × SameLog old.log new.log))
+SetsBase (Err NoMemory) base old new = (new.halted ≡ false) × SameParts old new

@@ -4,7 +4,7 @@ ghost use Rattle.bus_types.specs.Window.{Span};
 ghost use Rattle.event_codec.specs.Frames.{IsAnswer};
 ghost use Rattle.event_codec.specs.Questions.{Question, Reply};
 ghost use Rattle.bus_wire.specs.True.{boot_reply};
-ghost use Rattle.bus_stores.specs.Keeper.{SameStore};
+ghost use Rattle.bus_stores.specs.Keeper.{SameStore, BothTold};
 ghost use Rattle.bus_stores.specs.Log.{LogState, IsLog};
 ghost use Rattle.snapshot_applier.specs.BootMark.{IsBootMark, IsBootStored};
 ghost use Rattle.snapshot_applier.specs.declared.boot.BootMark.{BootMark};
@@ -53,11 +53,12 @@ impl<G: WindowLog, K: Keeper> Boot<G, K> {
         ensures fault { IfErr result (λ e. OpensNot e.0 (G.state log) (K.state keeper) (K.state e.2)) }
         ensures back { IfErr result (λ e. (e.1 ≡ log) × SameStore (K.state keeper) (K.state e.2)) }
         ensures faults { MatchResult result (λ boot. (K.state keeper).faults ≤ (K.state boot.keeper).faults) (λ e. (K.state keeper).faults ≤ (K.state e.2).faults) }
+        ensures calls { MatchResult result (λ boot. BothTold (λ a b. a ≤ b) (K.state keeper).calls (K.state boot.keeper).calls) (λ e. BothTold (λ a b. a ≤ b) (K.state keeper).calls (K.state e.2).calls) }
 
-        // Log and keeper of a bootstrap that stood for a timeline give one that does, at the same numbers, where the keeper tells
-        // its content.
-        ensures stands { (ws : List Span) (mark : BootMark) → StandsForBoot ws (G.state log) (K.state keeper) mark → IsSome (K.state keeper).content →
-            IfOk result (λ boot. (boot.mark ≡ mark) × Stands ws (told G.state K.state boot)) }
+        // Log and keeper of a bootstrap that stood for a timeline give one that does, at the same numbers, where the keeper still
+        // tells its content.
+        ensures stands { (ws : List Span) (mark : BootMark) → StandsForBoot ws (G.state log) (K.state keeper) mark →
+            IfOk result (λ boot. IsSome (K.state boot.keeper).content → (boot.mark ≡ mark) × Stands ws (told G.state K.state boot)) }
     {
         let mut keeper = keeper;
         let mark = match stored_mark(alloc, &mut keeper) {
@@ -106,7 +107,8 @@ impl<G: WindowLog, K: Keeper> Boot<G, K> {
         self.halted
     }
 
-    /// How a consumer that has followed up to `since` is to start again; afresh where it gives up its rows.
+    /// How a consumer is to start, whose rows are the table at `since`; where `fresh` is true it gives them up, so that only
+    /// a snapshot helps, and that is not to end before `since`. A delta goes from `since` to the number of `StartDelta`.
     pub fn start(&self, since: u64, fresh: bool) -> Answer
         ensures within { IsAnswer result }
         ensures reply { (ws : List Span) (test : Test) → boot_reply ws test (numbers (G.state self.now.log) self.now.mark) (Question.Start since fresh) ≡ Reply.Only result }
@@ -155,10 +157,11 @@ impl<G: WindowLog, K: Keeper> Boot<G, K> {
 // The boot mark that a keeper stores.
 fn stored_mark<K: Keeper>(alloc: Global, keeper: &mut K) -> Result<BootMark, BootOpen>
     ensures lawful { IfOk result IsBootMark }
-    ensures stored { IfOk result (Stores (K.state keeper.old)) }
+    ensures stored { IfOk result (Stores (K.state keeper.new)) }
     ensures fault { IfErr result (λ fault. (log : LogState) → OpensNot fault log (K.state keeper.old) (K.state keeper.new)) }
     ensures same { SameStore (K.state keeper.old) (K.state keeper.new) }
     ensures faults { (K.state keeper.old).faults ≤ (K.state keeper.new).faults }
+    ensures calls { BothTold (λ a b. a ≤ b) (K.state keeper.old).calls (K.state keeper.new).calls }
 {
     match keeper.mark(alloc) {
         Ok(None) => Ok(BootMark {

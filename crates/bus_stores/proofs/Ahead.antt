@@ -7,7 +7,7 @@ use Rattle.bus_types.specs.Window.{Span}
 use Rattle.bus_types.specs.Timeline.{end_from, windows_between}
 use Rattle.bus_types.proofs.Stretches.{timeline_rises, end_from-append, between_none}
 use Rattle.bus_stores.specs.declared.log.LogFault.{LogFault}
-use Rattle.bus_stores.specs.Log.{LogState, IsLog, Holds, LogCounts, SameLog, ReadsNext, first_after}
+use Rattle.bus_stores.specs.Log.{LogState, IsLog, Holds, LogCounts, SameLog, ReadsNext, Bounds, at_rest, first_after}
 use Rattle.bus_stores.specs.Following.{RiseBetween, ReadsWindows}
 use Rattle.bus_stores.proofs.KeptWindows.{between_first}
 
@@ -28,15 +28,27 @@ same_on old now new s t = t ∙ ap (λ (m : LogState). record m { faults = new.f
 pub unmoved_more : {X : Type 0} (old now new : LogState) (result : Result X LogFault) → Unmoved old now → LogCounts now new result → SameLog now new → Unmoved old new
 unmoved_more old now new result u c s = record { same = same_on old now new u.same s; later = omega (arith, u.later, c.faults) }
 
+-- what a crash leaves
+both_told : (A B C : List Span → Type 0) (told : Option (List Span)) → ((ws : List Span) → A ws → B ws → C ws) → IfSome told A → IfSome told B → IfSome told C
+both_told A B C None join p q = tt
+both_told A B C (Some ws) join p q = join ws p q
+
+-- what a crash leaves of a log that rests, up to a read and then in it
+pub rests_on : (A B C : List Span → Bounds → Type 0) (old now : LogState) → ((ws : List Span) (b : Bounds) → A ws b → B ws b → C ws b) → SameLog old now
+    → IfSome old.windows (λ ws. A ws (at_rest old)) → IfSome now.windows (λ ws. B ws (at_rest now)) → IfSome old.windows (λ ws. C ws (at_rest old))
+rests_on A B C old now join same p q =
+    both_told (λ ws. A ws (at_rest old)) (λ ws. B ws (at_rest old)) (λ ws. C ws (at_rest old)) old.windows (λ ws a b. join ws (at_rest old) a b) p
+    (subst (λ (s : LogState). IfSome s.windows (λ ws. B ws (at_rest s))) same q)
+
 -- ---- what was read
 
-rise_more : (scn high : ℕ) (found : List Span) (w : Span) → RiseBetween scn high found → w.prev ≤ end_from scn found → end_from scn found < w.scn → w.scn ≤ high → RiseBetween scn high (found ++ w ∷ [])
-rise_more scn high [] w r p l h = (p, l, h, tt)
-rise_more scn high (v ∷ vs) w r p l h = (r.0, r.1, r.2, rise_more v.scn high vs w r.3 p l h)
+rise_more : (scn high : ℕ) (found : List Span) (w : Span) → RiseBetween scn high found → end_from scn found < w.scn → w.scn ≤ high → RiseBetween scn high (found ++ w ∷ [])
+rise_more scn high [] w r l h = (l, h, tt)
+rise_more scn high (v ∷ vs) w r l h = (r.0, r.1, rise_more v.scn high vs w r.2 l h)
 
 rise_end : (scn high : ℕ) (found : List Span) → RiseBetween scn high found → scn ≤ end_from scn found
 rise_end scn high [] r = omega arith
-rise_end scn high (w ∷ ws) r = omega (arith, r.1, rise_end w.scn high ws r.3)
+rise_end scn high (w ∷ ws) r = omega (arith, r.0, rise_end w.scn high ws r.2)
 
 -- the windows that were read behind an SCN, and those that are still to be read behind another
 pub record ReadUpto (scn at most : ℕ) (old : LogState) (found : List Span) : Type 0 where
@@ -75,10 +87,10 @@ told_more scn at most floor high found w (Some ws) few l h e t =
 pub read_more : (scn at most : ℕ) (old now new : LogState) (found more : List Span) (w : Span) → IsLog old → Unmoved old now → ReadsNext at now new (Ok (Some w)) → length found < most → more ≡ found ++ w ∷ [] → ReadUpto scn at most old found → ReadUpto scn w.scn most old more
 read_more scn at most old now new found more w log u n few e r =
     let high = ap (λ (s : LogState). s.high) u.same in
-    let above : at < w.scn = n.found.window.1 in
+    let above : at < w.scn = n.found.window.0 in
     let told = subst (λ windows. IfSome windows (λ ws. Some w ≡ first_after at ws)) (ap (λ (s : LogState). s.windows) u.same) n.told in
     subst (ReadUpto scn w.scn most old) (sym e) (record {
-      rising = rise_more scn old.high found w r.rising (omega (arith, r.ends, n.found.window.0)) (omega (arith, r.ends)) (omega (arith, n.found.window.2));
+      rising = rise_more scn old.high found w r.rising (omega (arith, r.ends)) (omega (arith, n.found.window.1));
       few = omega (arith, length-append found (w ∷ []));
       ends = end_from-append scn found (w ∷ []);
       told = told_more scn at most old.floor old.high found w old.windows few above log.holds told r.told;

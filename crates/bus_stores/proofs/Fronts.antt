@@ -14,7 +14,7 @@ use Rattle.bus_types.specs.Table.{RowList}
 use Rattle.bus_types.proofs.Names.{name_cmp_total}
 use Rattle.bus_stores.specs.Keeper.{KeeperState, Content, IsTable, Reads}
 use Rattle.bus_stores.proofs.Pages.{rest_rises}
-use Rattle.bus_stores.proofs.Held.{Kept, kept_more, kept_ok}
+use Rattle.bus_stores.proofs.Held.{Kept, kept_more, kept_ok, told_on}
 
 last_at : (n : ℕ) (cursor : Cursor) (rows : List Row) (x : Row) → length rows ≡ suc n → slice_get rows n ≡ Some x → last_from cursor (map pair_of rows) ≡ After x.source x.key
 last_at n cursor [] x e f = absurd (omega arith)
@@ -136,14 +136,12 @@ told_last max None cursor all page total e behind few answer h = tt
 told_last max (Some c) cursor all page total e behind few answer h = e ∙ last_read max c.rows all page (answer ∙ ap (λ at. page_of at max c.rows) behind) few h
 
 -- a page more
-pub told_more : (max : ℕ) (old now new : KeeperState) (cursor : Cursor) (all page total : RowList) → Kept old now → Reads (λ c. page_of cursor max c.rows) now new (Ok page) → IfSome now.content (λ c. IsTable c.rows) → cursor ≡ last_from Start all → total ≡ all ++ page → ToldAll old all → ToldAll old total
-told_more max old now new cursor all page total k r table behind e h =
-    told_page max old.content cursor all page total e behind
-    (subst (λ o. IfSome o (λ c. page ≡ page_of cursor max c.rows)) k.same.content r.answer)
-    (subst (λ o. IfSome o (λ c. IsTable c.rows)) k.same.content table) h
+pub told_more : (max : ℕ) (now new : KeeperState) (cursor : Cursor) (all page total : RowList) → Reads (λ c. page_of cursor max c.rows) now new (Ok page) → IfSome new.content (λ c. IsTable c.rows) → cursor ≡ last_from Start all → total ≡ all ++ page → ToldAll now all → ToldAll new total
+told_more max now new cursor all page total r table behind e h =
+    told_page max new.content cursor all page total e behind r.answer table (told_on (λ c. AreAll c.rows all) now.content new.content r.same.content h)
 
 -- the last page
-pub told_done : (max : ℕ) (old now new : KeeperState) (cursor : Cursor) (all page total : RowList) → Kept old now → Reads (λ c. page_of cursor max c.rows) now new (Ok page) → cursor ≡ last_from Start all → total ≡ all ++ page → length page < max → ToldAll old all → Reads (λ c. c.rows) old new (Ok total)
+pub told_done : (max : ℕ) (old now new : KeeperState) (cursor : Cursor) (all page total : RowList) → Kept old now → Reads (λ c. page_of cursor max c.rows) now new (Ok page) → cursor ≡ last_from Start all → total ≡ all ++ page → length page < max → ToldAll now all → Reads (λ c. c.rows) old new (Ok total)
 told_done max old now new cursor all page total k r behind e few h =
     kept_ok (λ c. c.rows) old new total (kept_more (λ c. page_of cursor max c.rows) old now new (Ok page) k r)
-    (told_last max old.content cursor all page total e behind few (subst (λ o. IfSome o (λ c. page ≡ page_of cursor max c.rows)) k.same.content r.answer) h)
+    (told_last max new.content cursor all page total e behind few r.answer (told_on (λ c. AreAll c.rows all) now.content new.content r.same.content h))

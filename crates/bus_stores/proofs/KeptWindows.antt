@@ -1,17 +1,17 @@
 -- The windows of a log in memory: what is told of them, where those behind an SCN begin, and what is left without the oldest.
 use Rattle.std.proofs.Common.{◌≡◌, ℕ, zero, suc, ◌+◌, ◌-◌, ◌<◌, ◌≤◌, max, true, false, leb, nat_lt, List, [], ◌∷◌, ◌++◌, length, take, drop, slice_get, get_or, Some, refl, sym, ap, subst, ◌∙◌, arith, take-append-drop, inl, inr}
 use Rattle.std.specs.List.Sorted.{IsPartitionPoint}
-use Rattle.std.proofs.lemmas.Bool.{cond-true, cond-false, leb-true, lt-ltb, le-ltb, cases_lt}
+use Rattle.std.proofs.lemmas.Bool.{cond-true, cond-false, leb-true, leb-false, lt-ltb, le-ltb, cases_lt}
 use Rattle.std.proofs.lemmas.List.{take_all, drop-drop}
 use Rattle.std.proofs.lemmas.Option.{same_Some, slice_get_read}
 use Rattle.std.proofs.Math.Seq.{take-add}
 use Rattle.bus_types.specs.declared.limits.TheConstants.{MAX_SCN}
 use Rattle.bus_types.specs.Window.{Span, span_size, IsSpan}
 use Rattle.bus_types.specs.Timeline.{IsTimelineFrom, end_from, total_size, windows_between}
-use Rattle.bus_types.proofs.Stretches.{Rises, rises_end, rises_take, rises_drop, rises_all, rises_past, timeline_rises, timeline-append, timeline-take, end_from-append, end_rises, end_at, between-append, between_in, between_below, rises_from}
+use Rattle.bus_types.proofs.Stretches.{Rises, rises_end, rises_take, rises_drop, rises_all, rises_past, rises_before, timeline_rises, timeline-append, timeline-take, end_from-append, end_rises, end_at, between-append, between_in, between_below, between_above, rises_from}
 use Rattle.bus_types.proofs.Places.{drop_place}
 use Rattle.bus_stores.specs.Log.{IsLog, IsFound, Dropped, first_after}
-use Rattle.bus_stores.specs.MemoryLog.{MemoryWindows, AreKept, IsPlaceAfter, log_of, without_front}
+use Rattle.bus_stores.specs.MemoryLog.{MemoryWindows, AreKept, IsPlaceAfter, log_of, without_front, without_upto}
 
 -- ---- what is told
 
@@ -82,6 +82,10 @@ front_dropped scn n s t p = record {
   windows = ap Some (behind_front s.floor n s.windows (timeline_rises s.floor s.windows t));
 }
 
+-- it is the log without them
+pub front_upto : (scn n : ℕ) (s : MemoryWindows) → IsPlaceAfter scn s.floor s.windows n → without_front n s ≡ without_upto scn s
+front_upto scn n s p = λ i. record s { windows = p.behind i; floor = end_from s.floor (p.front i) }
+
 -- ---- places
 
 place_upto : (prev scn : ℕ) (ws : List Span) (i : ℕ) → IsPartitionPoint (λ (w : Span). leb w.scn scn ≡ true) (λ (w : Span). leb w.scn scn ≡ false) ws i → end_from prev (take i ws) ≤ max prev scn
@@ -93,9 +97,20 @@ place_upto prev scn (w ∷ ws) (suc i) p =
     let rest = place_upto w.scn scn ws i (λ k d low high. p.0 (suc k) d (omega arith) (omega arith), λ k d low high. p.1 (suc k) d (omega arith) (omega arith)) in
     omega arith
 
+take_place : (prev scn : ℕ) (ws : List Span) (i : ℕ) → Rises prev ws → IsPartitionPoint (λ (w : Span). leb w.scn scn ≡ true) (λ (w : Span). leb w.scn scn ≡ false) ws i → take i ws ≡ windows_between prev scn ws
+take_place prev scn [] zero r p = refl
+take_place prev scn [] (suc i) r p = refl
+take_place prev scn (w ∷ ws) zero r p =
+    let above : scn < w.scn = leb-false w.scn scn (p.1 0 w (omega arith) (omega arith)) in
+    sym (between_above prev scn w ws above ∙ rises_before w.scn prev scn ws r.1 (omega arith))
+take_place prev scn (w ∷ ws) (suc i) r p =
+    let within : w.scn ≤ scn = leb-true w.scn scn (p.0 0 w (omega arith) (omega arith)) in
+    let rest = take_place w.scn scn ws i r.1 (λ k d low high. p.0 (suc k) d (omega arith) (omega arith), λ k d low high. p.1 (suc k) d (omega arith) (omega arith)) in
+    ap (λ kept. w ∷ kept) (rest ∙ rises_from w.scn w.scn prev scn ws r.1 (omega arith) (omega arith)) ∙ sym (between_in prev scn w ws r.0 within)
+
 -- the place that parts the windows at or below an SCN from those above it
 pub place_is : (scn floor : ℕ) (ws : List Span) (i : ℕ) → Rises floor ws → IsPartitionPoint (λ (w : Span). leb w.scn scn ≡ true) (λ (w : Span). leb w.scn scn ≡ false) ws i → IsPlaceAfter scn floor ws i
-place_is scn floor ws i r p = record { behind = drop_place floor scn ws i r p; upto = place_upto floor scn ws i p }
+place_is scn floor ws i r p = record { front = take_place floor scn ws i r p; behind = drop_place floor scn ws i r p; upto = place_upto floor scn ws i p }
 
 slice_get-drop : (ws : List Span) (i : ℕ) → slice_get ws i ≡ slice_get (drop i ws) 0
 slice_get-drop [] zero = refl
@@ -129,7 +144,7 @@ first_found prev scn (w ∷ ws) t low =
     let r = timeline_rises prev (w ∷ ws) t in
     elim (cases_lt scn w.scn) [
       | inl l ↦
-          let found : IsFound scn high (Some w) = record { window = (omega (arith, t.0.chained), l, rises_end w.scn ws r.1); none = tt } in
+          let found : IsFound scn high (Some w) = record { window = (l, rises_end w.scn ws r.1); none = tt } in
           subst (IsFound scn high) (sym (cond-true (nat_lt scn w.scn) (Some w) (first_after scn ws) (lt-ltb scn w.scn l))) found
       | inr l ↦ subst (IsFound scn high) (sym (cond-false (nat_lt scn w.scn) (Some w) (first_after scn ws) (le-ltb scn w.scn l))) (first_found w.scn scn ws t.1 l)
     ]

@@ -4,8 +4,10 @@ use Rattle.bus_types.specs.Window.{Span}
 use Rattle.bus_types.proofs.Stretches.{end_from-append}
 use Rattle.bus_stores.specs.declared.log.LogFault.{LogFault}
 use Rattle.bus_stores.specs.declared.log.LogFault.TheVariants.{Failed, Full, NoMemory}
+use Rattle.bus_stores.specs.declared.keeper.Stop.{Stop}
+use Rattle.bus_stores.specs.declared.keeper.Stop.TheVariants.{Before, After}
 use Rattle.bus_stores.specs.Log.{SameLog, AppendsWindow}
-use Rattle.bus_stores.specs.MemoryLog.{MemoryWindows, log_of, Pushes}
+use Rattle.bus_stores.specs.MemoryLog.{MemoryWindows, log_of, log_stop, log_begun, Pushes, PushesAndFails, AppendStands, LogFailsAt}
 
 -- nothing was changed
 unchanged : (old new : MemoryWindows) → new ≡ old → SameLog (log_of old) (log_of new)
@@ -28,6 +30,13 @@ pushes_appends w old new (Err Full) h = record {
   leaves = (h.0, unchanged old new h.1);
 }
 pushes_appends w old new (Err NoMemory) h = record {
-  counts = record { faults = omega (arith, ap (λ (s : MemoryWindows). s.faults) h); failed = tt; sound = tt; room = ap (λ s. (log_of s).room) h };
-  leaves = unchanged old new h;
+  counts = record { faults = omega (arith, ap (λ (s : MemoryWindows). s.faults) h.1); failed = tt; sound = tt; room = ap (λ s. (log_of s).room) h.1 };
+  leaves = (h.0, unchanged old new h.1);
 }
+
+-- what an append leaves that met no stop
+pub pushes_stands : (w : Span) (old new : MemoryWindows) (result : Result Unit LogFault) → Pushes w (log_begun old) new result → AppendStands w old new result
+pushes_stands w old new (Ok done) h = h.1
+pushes_stands w old new (Err Failed) h = absurd h
+pushes_stands w old new (Err Full) h = h.1
+pushes_stands w old new (Err NoMemory) h = h.1

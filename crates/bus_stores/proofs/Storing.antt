@@ -9,7 +9,7 @@ use Rattle.bus_stores.specs.declared.keeper.StoreFault.{StoreFault}
 use Rattle.bus_stores.specs.declared.keeper.StoreFault.TheVariants.{Failed, NoMemory}
 use Rattle.bus_stores.specs.declared.plan.Fail.{Fail}
 use Rattle.bus_stores.specs.Keeper.{Move, Counts, Reads, Commits, moved, rows_moved}
-use Rattle.bus_stores.specs.Memory.{MemoryStore, told_by, last_mark, no_fails, next_count, listed_stop, first_stop, commit_stop, begun, failed, stopped, stored}
+use Rattle.bus_stores.specs.Memory.{MemoryStore, told_by, last_mark, no_fails, next_count, listed_stop, first_stop, commit_stop, begun, failed, stopped, stopped_at, stored, CommitLeaves}
 
 abbrev calls_of : MemoryStore → ℕ
 calls_of s = s.calls
@@ -42,7 +42,7 @@ unsound (f ∷ fs) call stop e = refl
 pub reads_begun : (s t : MemoryStore) → t ≡ begun s → s.calls ≤ t.calls → Reads {X = Unit {0}} (λ c. tt) (told_by s) (told_by t) (Ok tt)
 reads_begun s t e later = record {
   counts = record { calls = later; faults = same_le (faults_of t) (faults_of s) (ap faults_of e); failed = tt };
-  same = record { content = ap (λ x. (told_by x).content) e; stops = ap (λ x. (told_by x).stops) e };
+  same = record { content = sym (ap (λ x. (told_by x).content) e); stops = ap (λ x. (told_by x).stops) e };
   answer = refl;
   sound = tt;
 }
@@ -51,7 +51,7 @@ reads_begun s t e later = record {
 pub reads_stopped : (s t u : MemoryStore) (stop : Stop) (fault : StoreFault) → listed_stop s.fails s.calls ≡ Some stop → t ≡ begun s → s.calls ≤ t.calls → u ≡ failed t → t.faults ≤ u.faults → fault ≡ Failed → Reads {X = Unit {0}} (λ c. tt) (told_by s) (told_by u) (Err fault)
 reads_stopped s t u stop fault listed e later f more is = subst (λ x. Reads {X = Unit {0}} (λ c. tt) (told_by s) (told_by u) (Err x)) (sym is) (record {
   counts = fails_counted s t u (ap faults_of e) later (ap calls_of f) more (ap faults_of f);
-  same = record { content = ap (λ x. (told_by x).content) (f ∙ ap failed e); stops = ap (λ x. (told_by x).stops) (f ∙ ap failed e) };
+  same = record { content = sym (ap (λ x. (told_by x).content) (f ∙ ap failed e)); stops = ap (λ x. (told_by x).stops) (f ∙ ap failed e) };
   answer = tt;
   sound = unsound s.fails s.calls stop listed;
 })
@@ -74,8 +74,8 @@ armed_met : (s : MemoryStore) (stop : Option Stop) → commit_stop s ≡ stop �
 armed_met s stop e sound = armed_first s.armed (listed_stop s.fails s.calls) stop (unlisted s.fails s.calls sound) e
 
 -- what a keeper that made a commit tells of its content
-stored_content : (m : Move) (s t : MemoryStore) → t.rows ≡ rows_moved m s.rows → t.marks ≡ s.marks ++ m.mark ∷ [] → (told_by t).content ≡ option_map (moved m) (told_by s).content
-stored_content m s t rows marks = λ i. Some (record { rows = rows i; mark = (ap last_mark marks ∙ last_pushed s.marks m.mark) i })
+stored_content : (m : Move) (s t : MemoryStore) → t.rows ≡ rows_moved m s.rows → t.marks ≡ s.marks ++ m.mark ∷ [] → option_map (moved m) (told_by s).content ≡ (told_by t).content
+stored_content m s t rows marks = sym (λ i. Some (record { rows = rows i; mark = (ap last_mark marks ∙ last_pushed s.marks m.mark) i }))
 
 -- a commit that met no stop
 pub commits_ok : (m : Move) (s t u : MemoryStore) → commit_stop s ≡ None → t ≡ begun s → s.calls ≤ t.calls → u ≡ stored m t → Commits m (told_by s) (told_by u) (Ok tt)
@@ -93,7 +93,7 @@ pub commits_before : (m : Move) (s t u : MemoryStore) (fault : StoreFault) → c
 commits_before m s t u fault met e later f more is = subst (λ x. Commits m (told_by s) (told_by u) (Err x)) (sym is) (record {
   counts = fails_counted s t u (ap faults_of e) later (ap calls_of f) more (ap faults_of f);
   leaves = inl (record {
-    content = ap (λ x. (told_by x).content) (f ∙ ap stopped e);
+    content = sym (ap (λ x. (told_by x).content) (f ∙ ap stopped e));
     stops = ap (λ x. (told_by x).stops) (f ∙ ap stopped e);
     sound = armed_met s (Some Before) met;
   });
@@ -116,7 +116,22 @@ commits_after m s t u v fault met e later f g more is =
 pub commits_none : (m : Move) (s t u : MemoryStore) → t ≡ begun s → s.calls ≤ t.calls → u ≡ t → Commits m (told_by s) (told_by u) (Err NoMemory)
 commits_none m s t u e later f = record {
   counts = record { calls = calls_kept s t u later (ap calls_of f); faults = same_le (faults_of u) (faults_of s) (ap faults_of (f ∙ e)); failed = tt };
-  leaves = record { content = ap (λ x. (told_by x).content) (f ∙ e); stops = ap (λ x. (told_by x).stops) (f ∙ e) };
+  leaves = record { content = sym (ap (λ x. (told_by x).content) (f ∙ e)); stops = ap (λ x. (told_by x).stops) (f ∙ e) };
 }
 
-pub ruleset commit_steps = (commits_ok, commits_before, commits_after, commits_none)
+-- what each leaves exactly
+pub leaves_ok : (m : Move) (s t u : MemoryStore) (done : Unit {0}) → t ≡ begun s → u ≡ stored m t → CommitLeaves m s u (Ok done)
+leaves_ok m s t u done e f = f ∙ ap (stored m) e
+
+pub leaves_before : (m : Move) (s t u : MemoryStore) (fault : StoreFault) → commit_stop s ≡ Some Before → t ≡ begun s → u ≡ stopped t → fault ≡ Failed → CommitLeaves {X = Unit {0}} m s u (Err fault)
+leaves_before m s t u fault met e f is =
+    subst (λ x. CommitLeaves {X = Unit {0}} m s u (Err x)) (sym is) (f ∙ ap stopped e ∙ ap (λ stop. stopped_at stop m (begun s)) (sym met))
+
+pub leaves_after : (m : Move) (s t u v : MemoryStore) (fault : StoreFault) → commit_stop s ≡ Some After → t ≡ begun s → u ≡ stored m t → v ≡ stopped u → fault ≡ Failed → CommitLeaves {X = Unit {0}} m s v (Err fault)
+leaves_after m s t u v fault met e f g is =
+    subst (λ x. CommitLeaves {X = Unit {0}} m s v (Err x)) (sym is) (g ∙ ap stopped (f ∙ ap (stored m) e) ∙ ap (λ stop. stopped_at stop m (begun s)) (sym met))
+
+pub leaves_none : (m : Move) (s t u : MemoryStore) → t ≡ begun s → u ≡ t → CommitLeaves {X = Unit {0}} m s u (Err NoMemory)
+leaves_none m s t u e f = f ∙ e
+
+pub ruleset commit_steps = (commits_ok, commits_before, commits_after, commits_none, leaves_ok, leaves_before, leaves_after, leaves_none)

@@ -6,10 +6,10 @@ use Rattle.bus_types.specs.Timeline.{end_from, windows_between}
 use Rattle.bus_stores.specs.declared.log.LogFault.{LogFault}
 use Rattle.bus_stores.specs.Log.{LogState, LogCounts, SameLog, OnFull}
 
--- windows that rise strictly behind an SCN, up to another, with none between
+-- windows that rise strictly behind an SCN, up to another
 abbrev pub RiseBetween : ℕ → ℕ → List Span → Type 0
 RiseBetween scn high [] = Unit {0}
-RiseBetween scn high (w ∷ ws) = (w.prev ≤ scn) × (scn < w.scn) × (w.scn ≤ high) × RiseBetween w.scn high ws
+RiseBetween scn high (w ∷ ws) = (scn < w.scn) × (w.scn ≤ high) × RiseBetween w.scn high ws
 
 -- what is found behind an SCN up to the newest window: at most so many, and fewer only where none is left
 pub record AreFound (scn high most : ℕ) (found : List Span) : Type 0 where

@@ -100,21 +100,25 @@ pub record Counts {X : Type 0} (old new : KeeperState) (result : Result X StoreF
   pub faults : old.faults ≤ new.faults
   pub failed : OnFailed result (Rose old.faults new.faults)
 
+-- content that is told after a call, where any is, is this: a call may shut a keeper, which then tells none
+abbrev pub TellsOnly : Option Content → Option Content → Type 0
+TellsOnly is told = IfSome told (λ c. is ≡ Some c)
+
 -- all but the counts is as it was
 pub record SameStore (old new : KeeperState) : Type 0 where
-  pub content : new.content ≡ old.content
+  pub content : TellsOnly old.content new.content
   pub stops : new.stops ≡ old.stops
 
 -- a call that reads: it answers what is asked of the content and changes nothing, and at a sound keeper it doesn't fail
 pub record Reads {X : Type 0} (asked : Content → X) (old new : KeeperState) (result : Result X StoreFault) : Type 0 where
   pub counts : Counts old new result
   pub same : SameStore old new
-  pub answer : IfOk result (λ x. IfSome old.content (λ c. x ≡ asked c))
+  pub answer : IfOk result (λ x. IfSome new.content (λ c. x ≡ asked c))
   pub sound : OnFailed result (IfSome old.stops (λ s. s.sound ≡ false))
 
 -- a commit that met this stop, or none; at a sound keeper it is the one that was armed
 pub record Meets (stop : Option Stop) (m : Move) (old new : KeeperState) : Type 0 where
-  pub content : new.content ≡ option_map (content_after stop m) old.content
+  pub content : TellsOnly (option_map (content_after stop m) old.content) new.content
   pub stops : new.stops ≡ option_map (stops_after stop m) old.stops
   pub sound : IfSome old.stops (λ s. s.sound ≡ true → s.armed ≡ stop)
 

@@ -9,10 +9,12 @@ use Rattle.bus_stores.specs.declared.log.LogFault.TheVariants.{Failed, Full, NoM
 
 -- ---- what it tells
 
--- the most bytes of windows in full that it holds, and whether none of its calls fails
+-- the most bytes of windows in full that it holds, whether none of its calls fails, and whether a drop drops every window
+-- that it may and wants no memory
 pub record LogRoom : Type 0 where
   pub limit : ℕ
   pub sound : Bool
+  pub drops_all : Bool
 
 -- what a log tells: the SCN behind which its windows begin, that of its newest window, or the same where it has none; its
 -- windows and its room, where it tells them; which sizes find no room; and how often it failed
@@ -77,7 +79,7 @@ abbrev pub AppendLeaves : Span → LogState → LogState → Result Unit LogFaul
 AppendLeaves w old new (Ok done) = Appended w old new
 AppendLeaves w old new (Err Failed) = Unit {0}
 AppendLeaves w old new (Err Full) = (old.full (span_size w) ≡ true) × SameLog old new
-AppendLeaves w old new (Err NoMemory) = SameLog old new
+AppendLeaves w old new (Err NoMemory) = (old.full (span_size w) ≡ false) × SameLog old new
 
 -- a call that appends a window
 pub record AppendsWindow (w : Span) (old new : LogState) (result : Result Unit LogFault) : Type 0 where
@@ -90,7 +92,7 @@ first_after scn ws = find (λ w. nat_lt scn w.scn) ws
 
 -- what is found behind an SCN up to the newest window: a window with none between, or nothing where there is none
 pub record IsFound (scn high : ℕ) (found : Option Span) : Type 0 where
-  pub window : IfSome found (λ w. (w.prev ≤ scn) × (scn < w.scn) × (w.scn ≤ high))
+  pub window : IfSome found (λ w. (scn < w.scn) × (w.scn ≤ high))
   pub none : IfNone found (high ≤ scn)
 
 -- where a call answers `Full`
@@ -122,7 +124,49 @@ DropLeaves scn old new (Err Failed) = Unit {0}
 DropLeaves scn old new (Err Full) = ⊥
 DropLeaves scn old new (Err NoMemory) = SameLog old new
 
+-- a drop of every window that may be dropped: the log begins behind the newest window up to the SCN, where it tells its
+-- windows, and memory never runs out
+abbrev pub DropsAll : ℕ → LogState → LogState → Result Unit LogFault → Type 0
+DropsAll scn old new (Ok done) = IfSome old.windows (λ ws. new.floor ≡ end_from old.floor (windows_between old.floor scn ws))
+DropsAll scn old new (Err Failed) = Unit {0}
+DropsAll scn old new (Err Full) = ⊥
+DropsAll scn old new (Err NoMemory) = ⊥
+
 -- a call that drops windows
 pub record DropsWindows (scn : ℕ) (old new : LogState) (result : Result Unit LogFault) : Type 0 where
   pub counts : LogCounts old new result
   pub leaves : DropLeaves scn old new result
+  pub all : IfSome old.room (λ room. room.drops_all ≡ true → DropsAll scn old new result)
+
+-- ---- what a crash leaves
+
+-- between which SCNs the floor of a log lies, and the SCN of its newest window
+pub record Bounds : Type 0 where
+  pub least_floor : ℕ
+  pub most_floor : ℕ
+  pub least_high : ℕ
+  pub most_high : ℕ
+
+-- the ends of a log lie within bounds
+pub record LieWithin (b : Bounds) (floor high : ℕ) : Type 0 where
+  pub least_floor : b.least_floor ≤ floor
+  pub most_floor : floor ≤ b.most_floor
+  pub least_high : b.least_high ≤ high
+  pub most_high : high ≤ b.most_high
+
+-- within some bounds two lists have the same windows, and those bounds lie within others
+pub record Weakens (ws vs : List Span) (b c : Bounds) : Type 0 where
+  pub within : (floor high : ℕ) → LieWithin b floor high → LieWithin c floor high
+  pub same : (floor high : ℕ) → LieWithin b floor high → windows_between floor high vs ≡ windows_between floor high ws
+
+-- the ends of a log stay
+abbrev pub at_rest : LogState → Bounds
+at_rest s = record { least_floor = s.floor; most_floor = s.floor; least_high = s.high; most_high = s.high }
+
+-- its newest window may become another
+abbrev pub growing_to : ℕ → LogState → Bounds
+growing_to scn s = record (at_rest s) { most_high = scn }
+
+-- its windows up to an SCN may be dropped
+abbrev pub dropping_to : ℕ → LogState → Bounds
+dropping_to scn s = record (at_rest s) { most_floor = max s.floor scn }

@@ -101,3 +101,21 @@ stopped s = record s { armed = None; faults = next_count s.faults }
 -- a commit counts
 abbrev pub stored : Move → MemoryStore → MemoryStore
 stored m s = record s { rows = rows_moved m s.rows; marks = s.marks ++ m.mark ∷ [] }
+
+-- a commit fails at this stop: it counts where that is after it, and else it doesn't
+abbrev pub stopped_at : Option Stop → Move → MemoryStore → MemoryStore
+stopped_at (Some After) m s = stopped (stored m s)
+stopped_at (Some Before) m s = stopped s
+stopped_at None m s = stopped s
+
+-- what a commit leaves, by its answer: where it failed, the stop that it met says which of the two states
+abbrev pub CommitLeaves : {X : Type 0} → Move → MemoryStore → MemoryStore → Result X StoreFault → Type 0
+CommitLeaves m old new (Ok x) = new ≡ stored m (begun old)
+CommitLeaves m old new (Err Failed) = new ≡ stopped_at (commit_stop old) m (begun old)
+CommitLeaves m old new (Err NoMemory) = new ≡ begun old
+
+-- what a read leaves, by its answer
+abbrev pub ReadLeaves : {X : Type 0} → MemoryStore → MemoryStore → Result X StoreFault → Type 0
+ReadLeaves old new (Ok x) = new ≡ begun old
+ReadLeaves old new (Err Failed) = new ≡ failed (begun old)
+ReadLeaves old new (Err NoMemory) = new ≡ begun old

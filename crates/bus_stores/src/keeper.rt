@@ -38,14 +38,16 @@ pub enum Stop {
 
 /// A table of rows and at most one mark. A new one has neither.
 ///
-/// A keeper may tell its rows and its mark, a number of its calls, and its stops: the marks that its commits set, the
-/// stop that the next commit meets, and whether it is sound, which says that a call fails only where a commit meets an
-/// armed stop. What it tells it tells from then on. It always tells how often it failed.
+/// A keeper may tell its content, which is its rows and its mark, a number of its calls, and its stops: the marks that
+/// its commits set, the stop that the next commit meets, and whether it is sound, which says that a call fails only where
+/// a commit meets an armed stop. Content is told only while the keeper is open: any call may shut it, and from then on it
+/// tells none. The number of calls and the stops, where they are told, are told from then on. It always tells how often it
+/// failed.
 pub trait Keeper {
     /// What it tells of itself.
     ghost state: { Self → KeeperState };
 
-    /// The mark, where one is set.
+    /// The mark, where one is set. What is read is of the content that is told after the call.
     fn mark(&mut self, alloc: Global) -> Result<Option<MarkText>, StoreFault>
         ensures { Reads (λ c. c.mark) (state self.old) (state self.new) result };
 
@@ -63,7 +65,7 @@ pub trait Keeper {
     fn rows_after(&mut self, alloc: Global, cursor: &Cursor, max: usize) -> Result<Rows, StoreFault>
         requires { 0 < max }
         ensures read { Reads (λ c. page_of cursor.now max c.rows) (state self.old) (state self.new) result }
-        ensures ordered { OnOk result (IfSome (state self.old).content (λ c. IsTable c.rows)) }
+        ensures ordered { OnOk result (IfSome (state self.new).content (λ c. IsTable c.rows)) }
         ensures page { IfOk result (λ rows. IsPage cursor.now max rows) }
         ensures counted { OnOk result (BothTold Rose (state self.old).calls (state self.new).calls) };
 

@@ -26,6 +26,3 @@ pub use memory_log::MemoryLog;
 pub use paging::all_rows;
 pub use plan::Fail;
 pub use taking::{Commit, take};
-
-#[cfg(test)]
-mod tests;

@@ -2,7 +2,7 @@ ghost use Rattle.std.specs.Prelude.{◌≡◌, ◌≤◌, Some, IfOk, OnOk, OnEr
 ghost use Rattle.bus_types.specs.Causes.{Rose};
 ghost use Rattle.bus_types.specs.Rows.{page_of, IsPage};
 ghost use Rattle.bus_stores.specs.Keeper.{Reads, Commits, BothTold, IsTable, new_content, move_of, payload_of};
-ghost use Rattle.bus_stores.specs.Memory.{new_store, told_by, last_mark, stop_at, listed_stop, read_stop, commit_stop, FailsAt, CountsCall, begun, failed, stopped, stored};
+ghost use Rattle.bus_stores.specs.Memory.{new_store, told_by, last_mark, stop_at, listed_stop, read_stop, commit_stop, FailsAt, CountsCall, CommitLeaves, ReadLeaves, begun, failed, stopped, stored};
 
 use crate::keeper::{Keeper, Stop, StoreFault};
 use crate::plan::{Fail, Plan, stop_at};
@@ -97,6 +97,7 @@ impl MemoryKeeper {
     fn begin(&mut self) -> Result<(), StoreFault>
         ensures read { Reads (λ c. tt) (told_by self.old) (told_by self.new) result }
         ensures exact { FailsAt (read_stop self.old) result }
+        ensures exact_state { ReadLeaves self.old self.new result }
         ensures numbered { CountsCall self.old self.new }
     {
         match self.next_call() {
@@ -161,13 +162,15 @@ impl Keeper for MemoryKeeper {
     fn mark(&mut self, alloc: Global) -> Result<Option<MarkText>, StoreFault>
         ensures read { Reads (λ c. c.mark) (told_by self.old) (told_by self.new) result }
         ensures exact { FailsAt (read_stop self.old) result }
+        ensures exact_state { ReadLeaves self.old self.new result }
         ensures numbered { CountsCall self.old self.new }
     {
         self.begin()?;
         Ok(copy_last(alloc, &self.marks)?)
     }
 
-    /// An armed stop goes before a listed one.
+    /// An armed stop goes before a listed one. After `Failed` the rows and the mark are those that it sets where the stop
+    /// that it met is one after it counts, and else those before it; no stop is armed then.
     #[tactic(auto, using(crate::proofs::Storing::commit_steps))]
     fn commit(
         &mut self,
@@ -178,6 +181,7 @@ impl Keeper for MemoryKeeper {
     ) -> Result<(), StoreFault>
         ensures commit { Commits (move_of clear batch.now mark.now) (told_by self.old) (told_by self.new) result }
         ensures exact { FailsAt (commit_stop self.old) result }
+        ensures exact_state { CommitLeaves (move_of clear batch.now mark.now) self.old self.new result }
         ensures numbered { CountsCall self.old self.new }
     {
         match self.begin_commit() {
@@ -193,10 +197,11 @@ impl Keeper for MemoryKeeper {
     #[tactic(auto, using(crate::proofs::Reading::reading))]
     fn rows_after(&mut self, alloc: Global, cursor: &Cursor, max: usize) -> Result<Rows, StoreFault>
         ensures read { Reads (λ c. page_of cursor.now max c.rows) (told_by self.old) (told_by self.new) result }
-        ensures ordered { OnOk result (IfSome (told_by self.old).content (λ c. IsTable c.rows)) }
+        ensures ordered { OnOk result (IfSome (told_by self.new).content (λ c. IsTable c.rows)) }
         ensures page { IfOk result (λ rows. IsPage cursor.now max rows) }
         ensures counted { OnOk result (BothTold Rose (told_by self.old).calls (told_by self.new).calls) }
         ensures exact { FailsAt (read_stop self.old) result }
+        ensures exact_state { ReadLeaves self.old self.new result }
         ensures numbered { CountsCall self.old self.new }
     {
         self.begin()?;
@@ -207,6 +212,7 @@ impl Keeper for MemoryKeeper {
     fn row(&mut self, alloc: Global, source: u16, key: &Key) -> Result<Option<Payload>, StoreFault>
         ensures read { Reads (payload_of source key.now) (told_by self.old) (told_by self.new) result }
         ensures exact { FailsAt (read_stop self.old) result }
+        ensures exact_state { ReadLeaves self.old self.new result }
         ensures numbered { CountsCall self.old self.new }
     {
         self.begin()?;

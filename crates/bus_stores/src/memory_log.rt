@@ -2,7 +2,8 @@ ghost use Rattle.std.specs.Prelude.{◌≡◌, ◌≤◌, ◌<◌, false, length
 ghost use Rattle.bus_types.specs.Window.{span_size};
 ghost use Rattle.bus_types.specs.Timeline.{IsTimelineFrom, end_from, windows_between};
 ghost use Rattle.bus_stores.specs.Log.{AppendsWindow, ReadsNext, DropsWindows, Dropped, IsFound, first_after};
-ghost use Rattle.bus_stores.specs.MemoryLog.{new_windows, log_of, log_stop, log_begun, log_failed, with_window, without_front, Pushes, IsPlaceAfter, LogFailsAt, CountsLogCall};
+ghost use Rattle.bus_stores.specs.Memory.{before_any};
+ghost use Rattle.bus_stores.specs.MemoryLog.{new_windows, log_of, log_stop, log_begun, log_failed, with_window, without_front, without_upto, Pushes, PushesAndFails, IsPlaceAfter, LogFailsAt, CountsLogCall, AppendStands, NextStands, DropStands};
 
 use crate::keeper::Stop;
 use crate::log::{LogFault, WindowLog};
@@ -46,7 +47,7 @@ impl Model for MemoryLog {
 impl MemoryLog {
     /// A log without a window, which holds at most `limit` bytes of windows in full and fails at the calls that are
     /// listed. Calls are numbered from 0, over `append`, `next` and `drop_through`. A call that is to fail after it counts
-    /// is made, as far as there is room, and then fails.
+    /// is made, as far as there is room, and then fails; where memory runs out in it, it answers that instead.
     pub fn new(alloc: Global, limit: u64, fails: &[Fail]) -> Result<MemoryLog, NoMemory>
         ensures { IfOk result (λ log. log ≡ new_windows limit fails.now) }
     {
@@ -110,6 +111,20 @@ impl MemoryLog {
         Ok(())
     }
 
+    // Appends an equal window, where there is room for it, and then fails.
+    fn push_and_fail(&mut self, alloc: Global, window: &Window) -> Result<(), LogFault>
+        requires chained { window.now.prev ≡ end_from self.old.floor self.old.windows }
+        requires full { 0 < length window.now.changes }
+        ensures pushes { PushesAndFails window.now self.old self.new result }
+        ensures later { self.old.faults ≤ self.new.faults }
+    {
+        if self.is_full(window.size()) {
+            return Err(self.fail());
+        }
+        self.add(alloc, window)?;
+        Err(self.fail())
+    }
+
     // Drops the oldest window, where there is one.
     fn drop_oldest(&mut self)
         ensures { self.new ≡ without_front 1 self.old }
@@ -140,8 +155,7 @@ impl MemoryLog {
     // Drops the windows up to an SCN.
     fn drop_upto(&mut self, scn: u64)
         ensures drops { Dropped scn (log_of self.old) (log_of self.new) }
-        ensures windows { self.new.windows ≡ windows_between scn (end_from self.old.floor self.old.windows) self.old.windows }
-        ensures rest { self.new ≡ record self.old { windows = self.new.windows; floor = self.new.floor } }
+        ensures is { self.new ≡ without_upto scn self.old }
     {
         self.drop_front(self.place_after(scn));
     }
@@ -183,6 +197,10 @@ fn copy_at(
 impl WindowLog for MemoryLog {
     ghost state = { log_of };
 
+    ghost weakens = { λ ws vs b c old new w p. tt };
+
+    ghost passes_on = { λ ws b old now new p q. tt };
+
     fn floor(&self) -> u64 {
         self.floor
     }
@@ -200,22 +218,21 @@ impl WindowLog for MemoryLog {
         requires full { 0 < length window.now.changes }
         ensures append { AppendsWindow window.now (log_of self.old) (log_of self.new) result }
         ensures exact { LogFailsAt (log_stop self.old) result }
+        ensures exact_state { AppendStands window.now self.old self.new result }
         ensures numbered { CountsLogCall self.old self.new }
     {
         match self.next_call() {
             None => self.push(alloc, window),
             Some(Stop::Before) => Err(self.fail()),
-            Some(Stop::After) => {
-                let _ = self.push(alloc, window);
-                Err(self.fail())
-            }
+            Some(Stop::After) => self.push_and_fail(alloc, window),
         }
     }
 
     fn next(&mut self, alloc: Global, scn: u64) -> Result<Option<Window>, LogFault>
         requires { (log_of self.old).floor ≤ scn }
         ensures next { ReadsNext scn (log_of self.old) (log_of self.new) result }
-        ensures exact { LogFailsAt (log_stop self.old) result }
+        ensures exact { LogFailsAt (before_any (log_stop self.old)) result }
+        ensures exact_state { NextStands self.old self.new result }
         ensures numbered { CountsLogCall self.old self.new }
     {
         match self.next_call() {
@@ -226,8 +243,8 @@ impl WindowLog for MemoryLog {
 
     fn drop_through(&mut self, _alloc: Global, scn: u64) -> Result<(), LogFault>
         ensures drops { DropsWindows scn (log_of self.old) (log_of self.new) result }
-        ensures dropped { OnOk result (self.new.windows ≡ windows_between scn (log_of self.old).high self.old.windows) }
         ensures exact { LogFailsAt (log_stop self.old) result }
+        ensures exact_state { DropStands scn self.old self.new result }
         ensures numbered { CountsLogCall self.old self.new }
     {
         match self.next_call() {

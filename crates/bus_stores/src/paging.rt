@@ -14,7 +14,7 @@ const PAGE: usize = 256;
 /// All rows of a keeper, in order of source and key, whatever number of pages they take.
 pub fn all_rows<K: Keeper>(alloc: Global, keeper: &mut K) -> Result<Rows, StoreFault>
     ensures read { Reads (λ c. c.rows) (K.state keeper.old) (K.state keeper.new) result }
-    ensures ordered { OnOk result (IfSome (K.state keeper.old).content (λ c. IsTable c.rows)) }
+    ensures ordered { OnOk result (IfSome (K.state keeper.new).content (λ c. IsTable c.rows)) }
     ensures rising { IfOk result (λ rows. RiseAfter Start rows) }
     ensures counted { OnOk result (BothTold Rose (K.state keeper.old).calls (K.state keeper.new).calls) }
 {

@@ -1,4 +1,6 @@
 pub mod Causes
+pub mod Counting
+pub mod Fnv
 pub mod Change
 pub mod Window
 pub mod Timeline

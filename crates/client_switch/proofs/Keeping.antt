@@ -6,7 +6,8 @@ use Rattle.checkpoint.specs.Mark.{IsMark, mark_text, floor_of}
 use Rattle.checkpoint.proofs.ReadBack.{one_mark}
 use Rattle.bus_wire.specs.declared.ask.Ask.{Ask}
 use Rattle.bus_stores.specs.declared.keeper.Stop.TheVariants.{Before, After}
-use Rattle.bus_stores.specs.Keeper.{KeeperState, Content, Move, SameStore, Meets, content_after}
+use Rattle.bus_stores.specs.Keeper.{KeeperState, Content, Move, TellsOnly, SameStore, Meets, content_after}
+use Rattle.bus_stores.proofs.Held.{told_on, tells_itself, carried_told}
 use Rattle.dispatcher.specs.Callbacks.{Call}
 use Rattle.client_switch.specs.declared.client.Took.{Took}
 use Rattle.client_switch.specs.declared.fault.TakeFault.{TakeFault}
@@ -20,7 +21,7 @@ use Rattle.client_switch.proofs.Turns.{stays, rises, lawful}
 
 -- it stays where the content does
 pub keeps_still : (old new : KeeperState) (mark : Mark) → SameStore old new → Keeps old mark → Keeps new mark
-keeps_still old new mark same keeps = subst (λ (o : Option Content). IfSome o (λ c. IsStored c.mark mark)) (sym same.content) keeps
+keeps_still old new mark same keeps = told_on (λ c. IsStored c.mark mark) old.content new.content same.content keeps
 
 stored_after : (o : Option Content) (m : Move) (mark : Mark) → IsMark mark → m.mark ≡ mark_text mark → IfSome (option_map (content_after None m) o) (λ c. IsStored c.mark mark)
 stored_after None m mark is text = tt
@@ -28,7 +29,7 @@ stored_after (Some c) m mark is text = (is, text)
 
 -- it is that of the commit
 stored_moved : (old new : KeeperState) (m : Move) (mark : Mark) → Meets None m old new → IsMark mark → m.mark ≡ mark_text mark → Keeps new mark
-stored_moved old new m mark meets is text = subst (λ (o : Option Content). IfSome o (λ c. IsStored c.mark mark)) (sym meets.content) (stored_after old.content m mark is text)
+stored_moved old new m mark meets is text = told_on (λ c. IsStored c.mark mark) (option_map (content_after None m) old.content) new.content meets.content (stored_after old.content m mark is text)
 
 -- it is that of the turn, which commits as b says
 keeps_made : (b : Bool) (t : Turn) (mark : Mark) (old new : KeeperState) → IsMark t.mark → (b ≡ false → t.mark ≡ mark) → Made (if b then Some (move_of_turn t) else None) old new → Keeps old mark → Keeps new t.mark
@@ -65,23 +66,34 @@ floor_in : (o : Option Content) (before after : Mark) → IfSome o (λ c. IsStor
 floor_in None before after one two = tt
 floor_in (Some c) before after one two = omega (arith, ap floor_of (one_stored c.mark before after one two))
 
-floor_still : (old new : KeeperState) → new.content ≡ old.content → FloorKept old new
-floor_still old new same before after one two = floor_in old.content before after one (subst (λ (o : Option Content). IfSome o (λ c. IsStored c.mark after)) same two)
+floor_still : (old new : KeeperState) → TellsOnly old.content new.content → FloorKept old new
+floor_still old new same before after one two = floor_in new.content before after (told_on (λ c. IsStored c.mark before) old.content new.content same one) two
 
 pub floor_same : (state : KeeperState) → FloorKept state state
-floor_same state = floor_still state state refl
+floor_same state = floor_still state state (tells_itself state.content)
 
-floor_after : (o : Option Content) (m : Move) (mark next before after : Mark) → IfSome o (λ c. IsStored c.mark mark) → IsMark next → m.mark ≡ mark_text next → floor_of mark ≤ floor_of next
-    → IfSome o (λ c. IsStored c.mark before) → IfSome (option_map (content_after None m) o) (λ c. IsStored c.mark after) → IfSome o (λ c. floor_of before ≤ floor_of after)
-floor_after None m mark next before after stored is text rise one two = tt
-floor_after (Some c) m mark next before after stored is text rise one two =
-    let first = one_stored c.mark before mark one stored in
-    let last = one_stored (Some m.mark) after next two (is, text) in
-    omega (arith, rise, ap floor_of first, ap floor_of last)
+both_told : (P Q : Content → Type 0) (R : Type 0) (o : Option Content) → ((c : Content) → P c → Q c → R) → IfSome o P → IfSome o Q → IfSome o (λ c. R)
+both_told P Q R None join p q = tt
+both_told P Q R (Some c) join p q = join c p q
 
-floor_moved : (old new : KeeperState) (m : Move) (mark next : Mark) → Keeps old mark → IsMark next → m.mark ≡ mark_text next → floor_of mark ≤ floor_of next → new.content ≡ option_map (content_after None m) old.content → FloorKept old new
+both_stored : (o : Option Content) (one other : Mark) → IfSome o (λ c. IsStored c.mark one) → IfSome o (λ c. IsStored c.mark other) → IfSome o (λ c. IsStored c.mark one × IsStored c.mark other)
+both_stored None one other p q = tt
+both_stored (Some c) one other p q = (p, q)
+
+floor_after : (o told : Option Content) (m : Move) (mark next before after : Mark) → IfSome o (λ c. IsStored c.mark mark) → IsMark next → m.mark ≡ mark_text next → floor_of mark ≤ floor_of next
+    → IfSome o (λ c. IsStored c.mark before) → TellsOnly (option_map (content_after None m) o) told → IfSome told (λ c. IsStored c.mark after) → IfSome told (λ c. floor_of before ≤ floor_of after)
+floor_after o told m mark next before after stored is text rise one moves two =
+    let less : (c : Content) → IsStored c.mark before × IsStored c.mark mark → IsStored (content_after None m c).mark after → floor_of before ≤ floor_of after = λ c both last.
+        let first = one_stored c.mark before mark both.0 both.1 in
+        let end = one_stored (Some m.mark) after next last (is, text) in
+        omega (arith, rise, ap floor_of first, ap floor_of end)
+    in
+    both_told (λ c. IsStored c.mark after → floor_of before ≤ floor_of after) (λ c. IsStored c.mark after) (floor_of before ≤ floor_of after) told (λ c less stored. less stored)
+    (carried_told (λ c. IsStored c.mark before × IsStored c.mark mark) (λ c. IsStored c.mark after → floor_of before ≤ floor_of after) (content_after None m) o told moves less (both_stored o before mark one stored)) two
+
+floor_moved : (old new : KeeperState) (m : Move) (mark next : Mark) → Keeps old mark → IsMark next → m.mark ≡ mark_text next → floor_of mark ≤ floor_of next → TellsOnly (option_map (content_after None m) old.content) new.content → FloorKept old new
 floor_moved old new m mark next stored is text rise moves before after one two =
-    floor_after old.content m mark next before after stored is text rise one (subst (λ (o : Option Content). IfSome o (λ c. IsStored c.mark after)) moves two)
+    floor_after old.content new.content m mark next before after stored is text rise one moves two
 
 pub same_content : (o : Option Content) (m : Move) → option_map (content_after (Some Before) m) o ≡ o
 same_content None m = refl
@@ -97,8 +109,8 @@ floor_made true t mark old new stored is rise made = floor_moved old new (move_o
 floor_made false t mark old new stored is rise made = floor_still old new made.content
 
 floor_unmade : (b : Bool) (t : Turn) (mark : Mark) (old new : KeeperState) → Keeps old mark → IsMark t.mark → floor_of mark ≤ floor_of t.mark → Unmade (if b then Some (move_of_turn t) else None) old new → FloorKept old new
-floor_unmade true t mark old new stored is rise (inl meets) = floor_still old new (meets.content ∙ same_content old.content (move_of_turn t))
-floor_unmade true t mark old new stored is rise (inr meets) = floor_moved old new (move_of_turn t) mark t.mark stored is refl rise (meets.content ∙ after_content old.content (move_of_turn t))
+floor_unmade true t mark old new stored is rise (inl meets) = floor_still old new (subst (λ o. TellsOnly o new.content) (same_content old.content (move_of_turn t)) meets.content)
+floor_unmade true t mark old new stored is rise (inr meets) = floor_moved old new (move_of_turn t) mark t.mark stored is refl rise (subst (λ o. TellsOnly o new.content) (after_content old.content (move_of_turn t)) meets.content)
 floor_unmade false t mark old new stored is rise unmade = absurd unmade
 
 -- whatever is answered, it hasn't fallen

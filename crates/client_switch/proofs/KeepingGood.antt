@@ -10,7 +10,8 @@ use Rattle.checkpoint.specs.declared.mark.Mark.{Mark}
 use Rattle.checkpoint.specs.Mark.{IsMark}
 use Rattle.bus_wire.specs.declared.ask.Ask.{Ask}
 use Rattle.bus_wire.specs.Lawful.{IsLawful}
-use Rattle.bus_stores.specs.Keeper.{KeeperState, Content, content_after}
+use Rattle.bus_stores.specs.Keeper.{KeeperState, Content, TellsOnly, content_after}
+use Rattle.bus_stores.proofs.Held.{told_on}
 use Rattle.dispatcher.specs.Callbacks.{Call}
 use Rattle.client_switch.specs.declared.client.Took.{Took}
 use Rattle.client_switch.specs.declared.fault.TakeFault.{TakeFault}
@@ -27,8 +28,11 @@ use Rattle.client_switch.proofs.GoodTurn.{good_turn}
 
 module _ (ws : List Span) (test : Test) where
   -- rows and a stored mark that are good
+  abbrev IsGood : Content → Type 0
+  IsGood c = (mark : Mark) × IsStored c.mark mark × Good ws test mark c.rows
+
   abbrev AreGood : Option Content → Type 0
-  AreGood o = IfSome o (λ c. (mark : Mark) × IsStored c.mark mark × Good ws test mark c.rows)
+  AreGood o = IfSome o IsGood
 
   abbrev AreGoodAt : Mark → Option Content → Type 0
   AreGoodAt mark o = IfSome o (λ c. IsStored c.mark mark × Good ws test mark c.rows)
@@ -45,14 +49,14 @@ module _ (ws : List Span) (test : Test) where
   good_after None mark t is leaves good = tt
   good_after (Some c) mark t is leaves good = (t.mark, (is, refl), leaves c.rows good.1)
 
-  good_still : (mark : Mark) (old new : KeeperState) → new.content ≡ old.content → HoldsGood ws test mark old → KeepsGood ws test new
-  good_still mark old new same good = subst AreGood (sym same) (good_in old.content mark good)
+  good_still : (mark : Mark) (old new : KeeperState) → TellsOnly old.content new.content → HoldsGood ws test mark old → KeepsGood ws test new
+  good_still mark old new same good = told_on IsGood old.content new.content same (good_in old.content mark good)
 
   pub good_same : (mark : Mark) (state : KeeperState) → HoldsGood ws test mark state → KeepsGood ws test state
   good_same mark state good = good_in state.content mark good
 
-  good_moved : (mark : Mark) (t : Turn) (old new : KeeperState) → IsMark t.mark → LeavesGood mark t → new.content ≡ option_map (content_after None (move_of_turn t)) old.content → HoldsGood ws test mark old → KeepsGood ws test new
-  good_moved mark t old new is leaves moves good = subst AreGood (sym moves) (good_after old.content mark t is leaves good)
+  good_moved : (mark : Mark) (t : Turn) (old new : KeeperState) → IsMark t.mark → LeavesGood mark t → TellsOnly (option_map (content_after None (move_of_turn t)) old.content) new.content → HoldsGood ws test mark old → KeepsGood ws test new
+  good_moved mark t old new is leaves moves good = told_on IsGood (option_map (content_after None (move_of_turn t)) old.content) new.content moves (good_after old.content mark t is leaves good)
 
   -- a commit that was made, or not
   good_made : (b : Bool) (mark : Mark) (t : Turn) (old new : KeeperState) → IsMark t.mark → LeavesGood mark t → Made (if b then Some (move_of_turn t) else None) old new → HoldsGood ws test mark old → KeepsGood ws test new
@@ -60,8 +64,8 @@ module _ (ws : List Span) (test : Test) where
   good_made false mark t old new is leaves made good = good_still mark old new made.content good
 
   good_unmade : (b : Bool) (mark : Mark) (t : Turn) (old new : KeeperState) → IsMark t.mark → LeavesGood mark t → Unmade (if b then Some (move_of_turn t) else None) old new → HoldsGood ws test mark old → KeepsGood ws test new
-  good_unmade true mark t old new is leaves (inl meets) good = good_still mark old new (meets.content ∙ same_content old.content (move_of_turn t)) good
-  good_unmade true mark t old new is leaves (inr meets) good = good_moved mark t old new is leaves (meets.content ∙ after_content old.content (move_of_turn t)) good
+  good_unmade true mark t old new is leaves (inl meets) good = good_still mark old new (subst (λ o. TellsOnly o new.content) (same_content old.content (move_of_turn t)) meets.content) good
+  good_unmade true mark t old new is leaves (inr meets) good = good_moved mark t old new is leaves (subst (λ o. TellsOnly o new.content) (after_content old.content (move_of_turn t)) meets.content) good
   good_unmade false mark t old new is leaves unmade good = absurd unmade
 
   module _ (old new : Held) (ask : Ask) (bytes : List ℕ) (kept keeps : KeeperState) (before after : Option (List Call)) (most : ℕ) (stands : CanStand old.mark old.wish) (asked : IsAskOf old.filter (asks old most) ask) (timeline : IsTimeline ws) (true_of : AreTrueOf ws test (asks old most) ask bytes) (good : HoldsGood ws test old.mark kept) where

@@ -209,6 +209,6 @@ HoldsGood ws test mark keeper = IfSome keeper.content (λ c. IsStored c.mark mar
 abbrev pub AreTrueOf : List Span → Test → Question → Ask → List ℕ → Type 0
 AreTrueOf ws test q ask bytes = (shape : Shape) (reply : Reply) → IsLawful ask bytes shape → IsReply shape bytes reply → IsTrueOf ws test q reply
 
--- the floor of what the keeper stores hasn't fallen
+-- the floor of what the keeper stores hasn't fallen, where it still tells its content
 abbrev pub FloorKept : KeeperState → KeeperState → Type 0
-FloorKept old new = (before after : Mark) → Keeps old before → Keeps new after → IfSome old.content (λ c. floor_of before ≤ floor_of after)
+FloorKept old new = (before after : Mark) → Keeps old before → Keeps new after → IfSome new.content (λ c. floor_of before ≤ floor_of after)

@@ -71,9 +71,9 @@ fn mark_in(alloc: Global, text: Option<MarkText>) -> Result<Mark, MarkFault>
 
 // The mark that a keeper holds.
 fn stored_mark<K: Keeper>(alloc: Global, keeper: &mut K) -> Result<Mark, ClientOpen>
-    ensures found { IfOk result (λ mark. Keeps (K.state keeper.old) mark) }
+    ensures found { IfOk result (λ mark. Keeps (K.state keeper.new) mark) }
     ensures lawful { IfOk result IsMark }
-    ensures bad { IsErrOf result ClientOpen.BadMark → IfSome (K.state keeper.old).content (λ c. (mark : Mark) → IsStored c.mark mark → ⊥) }
+    ensures bad { IsErrOf result ClientOpen.BadMark → IfSome (K.state keeper.new).content (λ c. (mark : Mark) → IsStored c.mark mark → ⊥) }
     ensures same { SameStore (K.state keeper.old) (K.state keeper.new) }
     ensures counts { CountsKept (K.state keeper.old) (K.state keeper.new) }
     ensures rose { IsErrOf result ClientOpen.StoreFault → Rose (K.state keeper.old).faults (K.state keeper.new).faults }
@@ -106,8 +106,8 @@ impl Client {
         keeper: &mut K,
         filter: Filter,
     ) -> Result<Client, ClientOpen>
-        ensures opened { IfOk result (λ c. (c.filter ≡ filter) × (c.wish ≡ NoWish) × (c.halted ≡ false) × Keeps (K.state keeper.old) c.mark) }
-        ensures bad { IsErrOf result ClientOpen.BadMark → IfSome (K.state keeper.old).content (λ c. (mark : Mark) → IsStored c.mark mark → ⊥) }
+        ensures opened { IfOk result (λ c. (c.filter ≡ filter) × (c.wish ≡ NoWish) × (c.halted ≡ false) × Keeps (K.state keeper.new) c.mark) }
+        ensures bad { IsErrOf result ClientOpen.BadMark → IfSome (K.state keeper.new).content (λ c. (mark : Mark) → IsStored c.mark mark → ⊥) }
         ensures same { SameStore (K.state keeper.old) (K.state keeper.new) }
         ensures counts { CountsKept (K.state keeper.old) (K.state keeper.new) }
         ensures rose { IsErrOf result ClientOpen.StoreFault → Rose (K.state keeper.old).faults (K.state keeper.new).faults }

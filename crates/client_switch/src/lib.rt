@@ -19,6 +19,3 @@ pub use laws::{
 };
 pub use wish::Wish;
 pub use worked::worked_moves;
-
-#[cfg(test)]
-mod tests;

@@ -10,3 +10,4 @@ pub mod Streams
 pub mod Reply
 pub mod Questions
 pub mod Chunks
+pub mod Parsing

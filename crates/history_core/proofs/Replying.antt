@@ -15,7 +15,7 @@ use Rattle.event_codec.specs.Frames.{answer_bytes}
 use Rattle.event_codec.specs.Items.{Since}
 use Rattle.event_codec.specs.Streams.{Come, after_window, windows_bytes}
 use Rattle.event_codec.specs.Reply.{reply_bytes}
-use Rattle.event_codec.proofs.Windows.{window_length, one_window}
+use Rattle.event_codec.proofs.WindowBytes.{window_length, one_window}
 use Rattle.bus_wire.specs.declared.ask.Ask.{Ask}
 use Rattle.bus_wire.specs.declared.ask.Ask.TheVariants.{Stream as StreamAsk, Start as StartAsk}
 use Rattle.bus_wire.specs.Lawful.{IsLawful, after_floor}

@@ -13,7 +13,7 @@ use Rattle.event_codec.specs.Bytes.{event_bytes, mark_bytes, changes_bytes, wind
 use Rattle.event_codec.specs.Streams.{windows_bytes}
 use Rattle.event_codec.specs.Writing.{accepted_bytes}
 use Rattle.event_codec.proofs.EventBytes.{event_length}
-use Rattle.event_codec.proofs.Windows.{window_length}
+use Rattle.event_codec.proofs.WindowBytes.{window_length}
 use Rattle.event_codec.proofs.Cuts.{cut_no_larger}
 use Rattle.event_codec.proofs.Writing.{accepted_more}
 use Rattle.bus_io.specs.declared.write.WriteFault.{WriteFault}

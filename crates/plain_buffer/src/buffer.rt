@@ -4,7 +4,7 @@ ghost use Rattle.bus_types.specs.Causes.{HasCause};
 ghost use Rattle.bus_types.specs.Cut.{cuts};
 ghost use Rattle.bus_types.specs.Window.{Span};
 ghost use Rattle.bus_types.specs.Timeline.{windows_between};
-ghost use Rattle.bus_types.specs.Relay.{fitting, new_relay, published, answer_of, StandsFor};
+ghost use Rattle.bus_types.specs.Relay.{fitting, new_relay, published, answer_of, stream, StandsFor};
 ghost use Rattle.event_codec.specs.Reply.{IsServed, IsInRange, windows_sent};
 
 use crate::kept::Kept;
@@ -108,6 +108,9 @@ impl PlainBuffer {
     ) -> Result<Served, WriteFault>
         ensures answer { IfOk result (λ s. IsServed s (answer_of self.now scn (F.test filter.now) max)) }
         ensures range { IfOk result IsInRange }
+
+        // Over each timeline that it stands for, the answer is the one by the rule of a relay.
+        ensures rule { IfOk result (λ s. (ws : List Span) → StandsFor ws self.now → IsServed s (stream ws self.now.floor self.now.tail scn (F.test filter.now) max)) }
         ensures written { OnOk result (Appends (W.written out.old) (W.written out.new) (windows_sent (answer_of self.now scn (F.test filter.now) max))) }
         ensures part { IfErr result (λ fault. Appends (W.written out.old) (W.written out.new) (take fault.written (windows_sent (answer_of self.now scn (F.test filter.now) max)))) }
         ensures short { IfErr result (λ fault. fault.written < length (windows_sent (answer_of self.now scn (F.test filter.now) max))) }

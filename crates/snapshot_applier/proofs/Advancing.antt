@@ -21,12 +21,12 @@ end_at_last scn (v ∷ u ∷ ws) w e =
 -- rising windows end at or after the SCN before them
 pub rise_end : (scn high : ℕ) (ws : List Span) → RiseBetween scn high ws → scn ≤ end_from scn ws
 rise_end scn high [] r = omega arith
-rise_end scn high (w ∷ ws) r = omega (arith, r.1, rise_end w.scn high ws r.3)
+rise_end scn high (w ∷ ws) r = omega (arith, r.0, rise_end w.scn high ws r.2)
 
 -- and at or before the upper one
 rise_upto : (scn high : ℕ) (ws : List Span) → scn ≤ high → RiseBetween scn high ws → end_from scn ws ≤ high
 rise_upto scn high [] h r = h
-rise_upto scn high (w ∷ ws) h r = rise_upto w.scn high ws r.2 r.3
+rise_upto scn high (w ∷ ws) h r = rise_upto w.scn high ws r.1 r.2
 
 -- the boot mark at the last window
 pub after_last : (m : BootMark) (at : ℕ) (ws : List Span) (w : Span) → at ≡ w.scn → Some w ≡ slice_get ws (length ws - 1) → record m { applied = at } ≡ applied_after m ws

@@ -14,6 +14,7 @@ use Rattle.bus_stores.specs.Keeper.{Content, KeeperState, Move, SameStore, move_
 use Rattle.bus_stores.specs.Log.{LogState}
 use Rattle.bus_stores.specs.Following.{AreFound}
 use Rattle.bus_stores.specs.Taking.{LeavesBy, Takes}
+use Rattle.bus_stores.proofs.Held.{told_on, carried_told}
 use Rattle.snapshot_applier.specs.declared.boot.BootMark.{BootMark}
 use Rattle.snapshot_applier.specs.BootMark.{IsBootMark, boot_mark_text}
 use Rattle.snapshot_applier.specs.Apply.{AreNext, applied_after, commit_of, Applied, Unapplied, Applies}
@@ -45,13 +46,8 @@ moved_stands ws run m most high c t lawful e h = record {
   rows = ap (λ rows. rows_after rows (flat_map (λ (w : Span). w.changes) run)) h.rows ∙ table_runs m.applied high most ws run t e;
 }
 
--- what holds of a content that is told holds of the one that is made of it
-made_of : (P Q : Content → Type 0) (f : Content → Content) (old new : Option Content) → new ≡ option_map f old → ((c : Content) → P c → Q (f c)) → IfSome old P → IfSome new Q
-made_of P Q f None new e each h = subst (λ content. IfSome content Q) (sym e) tt
-made_of P Q f (Some c) new e each h = subst (λ content. IfSome content Q) (sym e) (each c h)
-
 same_content : (P : Content → Type 0) (old new : KeeperState) → SameStore old new → IfSome old.content P → IfSome new.content P
-same_content P old new s h = subst (λ content. IfSome content P) (sym s.content) h
+same_content P old new s h = told_on P old.content new.content s.content h
 
 -- ---- keepers
 
@@ -59,7 +55,7 @@ made_stands : (ws run : List Span) (m : BootMark) (most high : ℕ) (old new : K
     → LeavesBy {X = Unit {0}} (commit_of m run) old new (Ok tt) → IfSome old.content (StandsAt ws m) → IfSome new.content (StandsAt ws (applied_after m run))
 made_stands ws [] m most high old new t lawful e l h = same_content (StandsAt ws m) old new l h
 made_stands ws (w ∷ run) m most high old new t lawful e l h =
-    made_of (StandsAt ws m) (StandsAt ws (applied_after m (w ∷ run))) (content_after None (move_over m (w ∷ run))) old.content new.content l.content
+    carried_told (StandsAt ws m) (StandsAt ws (applied_after m (w ∷ run))) (content_after None (move_over m (w ∷ run))) old.content new.content l.content
     (λ c stands. moved_stands ws (w ∷ run) m most high c t lawful e stands) h
 
 unmade_stands : (ws run : List Span) (m : BootMark) (most high : ℕ) (old new : KeeperState) → IsTimeline ws → IsBootMark m → run ≡ take most (windows_between m.applied high ws)
@@ -68,9 +64,9 @@ unmade_stands ws [] m most high old new t lawful e l h = absurd l
 unmade_stands ws (w ∷ run) m most high old new t lawful e l h =
     let either = λ (c : Content). StandsAt ws m c ⊎ StandsAt ws (applied_after m (w ∷ run)) c in
     elim l [
-      | inl before ↦ made_of (StandsAt ws m) either (content_after (Some Before) (move_over m (w ∷ run))) old.content new.content before.content (λ c stands. inl stands) h
+      | inl before ↦ carried_told (StandsAt ws m) either (content_after (Some Before) (move_over m (w ∷ run))) old.content new.content before.content (λ c stands. inl stands) h
       | inr after ↦
-          made_of (StandsAt ws m) either (content_after (Some After) (move_over m (w ∷ run))) old.content new.content after.content
+          carried_told (StandsAt ws m) either (content_after (Some After) (move_over m (w ∷ run))) old.content new.content after.content
           (λ c stands. inr (moved_stands ws (w ∷ run) m most high c t lawful e stands)) h
     ]
 

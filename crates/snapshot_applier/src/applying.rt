@@ -3,7 +3,7 @@ ghost use Rattle.bus_types.specs.declared.limits.TheConstants.{MAX_SCN};
 ghost use Rattle.bus_types.specs.Window.{Span};
 ghost use Rattle.bus_types.specs.Timeline.{IsTimeline};
 ghost use Rattle.bus_stores.specs.Keeper.{BothTold, move_of};
-ghost use Rattle.bus_stores.specs.Log.{SameLog};
+ghost use Rattle.bus_stores.specs.Log.{SameLog, at_rest};
 ghost use Rattle.bus_stores.specs.Following.{RiseBetween};
 ghost use Rattle.bus_stores.specs.Taking.{Takes};
 ghost use Rattle.snapshot_applier.specs.BootMark.{IsBootMark, boot_mark_text};
@@ -20,7 +20,8 @@ use std::alloc::Global;
 /// that mark. Where no window is left it commits nothing and answers the mark that it was given.
 ///
 /// `LogFailed` comes only where the log's count of faults rose, and `StoreFailed` only where the keeper's did; the keeper is
-/// then as before the commit or as after it. After `LogFailed` and `NoMemory` it is as before. `Halted` never comes.
+/// then as before the commit or as after it. After `LogFailed` and `NoMemory` it is as before. `Halted` never comes. A crash
+/// meanwhile leaves the log's windows that were told.
 pub fn apply<G: WindowLog, K: Keeper>(
     alloc: Global,
     log: &mut G,
@@ -30,7 +31,7 @@ pub fn apply<G: WindowLog, K: Keeper>(
 ) -> Result<BootMark, BootFault>
     requires low { (G.state log.old).floor ≤ mark.now.applied }
     requires high { mark.now.applied ≤ (G.state log.old).high }
-    requires mark { IsBootMark mark.now }
+    requires order { mark.now.base ≤ mark.now.applied }
     requires some { 1 ≤ n }
     requires few { n ≤ 32 }
     ensures applies { Applies result mark.now n (G.state log.old) (G.state log.new) (K.state keeper.old) (K.state keeper.new) }
@@ -40,9 +41,11 @@ pub fn apply<G: WindowLog, K: Keeper>(
     ensures sound { IsErrOf result BootFault.LogFailed → IfSome (G.state log.old).room (λ room. room.sound ≡ false) }
     ensures calls { BothTold (λ a b. a ≤ b) (K.state keeper.old).calls (K.state keeper.new).calls }
     ensures log { SameLog (G.state log.old) (G.state log.new) }
+    ensures crash { IfSome (G.state log.old).windows (λ ws. G.passes ws (at_rest (G.state log.old)) log.old log.new) }
     ensures log_faults { (G.state log.old).faults ≤ (G.state log.new).faults }
     ensures faults { (K.state keeper.old).faults ≤ (K.state keeper.new).faults }
 {
+    let _within = log.high();
     let windows = match next_windows(alloc, log, mark.applied, n as usize) {
         Ok(windows) => windows,
         Err(LogFault::NoMemory) => return Err(BootFault::NoMemory),

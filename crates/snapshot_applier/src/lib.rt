@@ -15,6 +15,3 @@ pub use bus_stores::BootFault;
 pub use fault::BootTextFault;
 pub use laws::{a_boot_mark_has_one_text, applied_rows_are_the_table};
 pub use text::{boot_text, read_boot};
-
-#[cfg(test)]
-mod tests;

@@ -1,18 +1,49 @@
 use Rattle.std.proofs.Common.{Ok, subst}
 use Rattle.bootstrap_core.specs.Trimming.{ReadsUpto}
-use Rattle.bootstrap_core.proofs.NewestRead.{newest_more, newest_done}
+use Rattle.bootstrap_core.proofs.NewestRead.{newest_none, newest_behind, newest_more, newest_done}
+use Rattle.bootstrap_core.proofs.CrashBounds.{rest_drops, drops_read}
 use Rattle.bootstrap_core.proofs.moving.newest.Goals as goal
+
+pub next_upto-requires : goal.next_upto-requires
+next_upto-requires g c = newest_behind c.args.base c.reads.found c.args.upto (g.G.WindowLog.state c.args.log.now) (g.G.WindowLog.state c.reads.log) c.requires c.reads.invariant.so
+
+pub reads-init : goal.reads-init
+reads-init g c =
+    let log = g.G.WindowLog.state c.args.log.now in
+    record {
+      so = newest_none c.args.base c.args.upto log;
+      crash = λ most. rest_drops (λ ws b. g.G.WindowLog.passes ws b c.args.log.now c.args.log.now) most log (λ ws b d w p. g.met.G.WindowLog.weakens ws ws b d c.args.log.now c.args.log.now w p) c.high-rising.ensures.crash;
+    }
 
 pub reads-preserved : goal.reads-preserved
 reads-preserved g c =
+    let old = g.G.WindowLog.state c.args.log.now in
     let now = g.G.WindowLog.state c.reads.log in
     let new = g.G.WindowLog.state c.next_upto.new.log in
-    let next = subst (λ found. ReadsUpto c.reads.found c.args.upto now new (Ok found)) c.in-Some.is c.in_ok-scn.ensures in
-    newest_more c.args.base c.reads.found c.args.upto c.in-Some.scn (g.G.WindowLog.state c.args.log.now) now new c.high-rising.ensures.log c.reads.invariant next
+    let next = subst (λ found. ReadsUpto c.reads.found c.args.upto now new (Ok found)) c.in-Some.is c.in_ok-scn.ensures.reads in
+    record {
+      so = newest_more c.args.base c.reads.found c.args.upto c.in-Some.scn old now new c.high-rising.ensures.log c.reads.invariant.so next;
+      crash = λ most.
+          drops_read (λ ws b. g.G.WindowLog.passes ws b c.args.log.now c.reads.log) (λ ws b. g.G.WindowLog.passes ws b c.reads.log c.next_upto.new.log) (λ ws b. g.G.WindowLog.passes ws b c.args.log.now c.next_upto.new.log)
+          most (g.G.WindowLog.state c.args.log.now) (g.G.WindowLog.state c.reads.log) (λ ws b d w p. g.met.G.WindowLog.weakens ws ws b d c.reads.log c.next_upto.new.log w p) (λ ws b p q. g.met.G.WindowLog.passes_on ws b c.args.log.now c.reads.log c.next_upto.new.log p q)
+          c.reads.invariant.so.unmoved.same (c.reads.invariant.crash most) c.next_upto.ensures.crash;
+    }
 
 pub returns-in-None-clause-reads : goal.returns-in-None-clause-reads
 returns-in-None-clause-reads g c =
     let now = g.G.WindowLog.state c.reads.log in
     let new = g.G.WindowLog.state c.next_upto.new.log in
-    let none = subst (λ found. ReadsUpto c.reads.found c.args.upto now new (Ok found)) c.in-None.is c.in_ok-scn.ensures in
-    newest_done c.args.base c.reads.found c.args.upto (g.G.WindowLog.state c.args.log.now) now new c.high-rising.ensures.log c.reads.invariant none
+    let none = subst (λ found. ReadsUpto c.reads.found c.args.upto now new (Ok found)) c.in-None.is c.in_ok-scn.ensures.reads in
+    newest_done c.args.base c.reads.found c.args.upto (g.G.WindowLog.state c.args.log.now) now new c.high-rising.ensures.log c.reads.invariant.so none
+
+pub returns-in-None-clause-crash : goal.returns-in-None-clause-crash
+returns-in-None-clause-crash g c most =
+    drops_read (λ ws b. g.G.WindowLog.passes ws b c.args.log.now c.reads.log) (λ ws b. g.G.WindowLog.passes ws b c.reads.log c.next_upto.new.log) (λ ws b. g.G.WindowLog.passes ws b c.args.log.now c.next_upto.new.log)
+    most (g.G.WindowLog.state c.args.log.now) (g.G.WindowLog.state c.reads.log) (λ ws b d w p. g.met.G.WindowLog.weakens ws ws b d c.reads.log c.next_upto.new.log w p) (λ ws b p q. g.met.G.WindowLog.passes_on ws b c.args.log.now c.reads.log c.next_upto.new.log p q)
+    c.reads.invariant.so.unmoved.same (c.reads.invariant.crash most) c.next_upto.ensures.crash
+
+pub returns-in_err-scn-clause-crash : goal.returns-in_err-scn-clause-crash
+returns-in_err-scn-clause-crash g c most =
+    drops_read (λ ws b. g.G.WindowLog.passes ws b c.args.log.now c.reads.log) (λ ws b. g.G.WindowLog.passes ws b c.reads.log c.next_upto.new.log) (λ ws b. g.G.WindowLog.passes ws b c.args.log.now c.next_upto.new.log)
+    most (g.G.WindowLog.state c.args.log.now) (g.G.WindowLog.state c.reads.log) (λ ws b d w p. g.met.G.WindowLog.weakens ws ws b d c.reads.log c.next_upto.new.log w p) (λ ws b p q. g.met.G.WindowLog.passes_on ws b c.args.log.now c.reads.log c.next_upto.new.log p q)
+    c.reads.invariant.so.unmoved.same (c.reads.invariant.crash most) c.next_upto.ensures.crash

@@ -1,9 +1,13 @@
-use Rattle.std.proofs.Common.{◌-◌}
+use Rattle.std.proofs.Common.{◌-◌, ℕ, IfSome}
+use Rattle.bus_stores.specs.Log.{dropping_to}
 use Rattle.bootstrap_core.proofs.NewestRead.{NewestSo}
 use Rattle.bootstrap_core.proofs.moving.newest.Given as goal
 
 abbrev pub invariant-reads : goal.invariant-reads
-invariant-reads g l = NewestSo l.base l.found l.upto (g.G.WindowLog.state l.fn.log) (g.G.WindowLog.state l.log)
+invariant-reads g l = record {
+  so : NewestSo l.base l.found l.upto (g.G.WindowLog.state l.fn.log) (g.G.WindowLog.state l.log);
+  crash : (most : ℕ) → IfSome (g.G.WindowLog.state l.fn.log).windows (λ ws. g.G.WindowLog.passes ws (dropping_to most (g.G.WindowLog.state l.fn.log)) l.fn.log l.log);
+}
 
 abbrev pub decreases-reads : goal.decreases-reads
 decreases-reads g l = l.upto - l.found

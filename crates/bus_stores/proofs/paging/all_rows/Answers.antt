@@ -25,7 +25,7 @@ pages-preserved g c =
     let new = g.K.Keeper.state c.rows_after.new.self in
     record {
       kept = kept_more _ old now new (Ok c.in_ok-page.page) c.pages.invariant.kept c.in_ok-page.ensures.read;
-      told = told_more PAGE old now new c.cursor_behind.result (map pair_of c.pages.all.items) c.in_ok-page.page _ c.pages.invariant.kept c.in_ok-page.ensures.read c.in_ok-page.ensures.ordered at total c.pages.invariant.told;
+      told = told_more PAGE now new c.cursor_behind.result (map pair_of c.pages.all.items) c.in_ok-page.page _ c.in_ok-page.ensures.read c.in_ok-page.ensures.ordered at total c.pages.invariant.told;
       rising = page_rises PAGE c.cursor_behind.result (map pair_of c.pages.all.items) c.in_ok-page.page _ total at c.pages.invariant.rising c.in_ok-page.ensures.page;
     }
 

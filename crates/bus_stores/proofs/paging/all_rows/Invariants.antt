@@ -8,7 +8,7 @@ use Rattle.bus_stores.proofs.paging.all_rows.Given as goal
 abbrev pub invariant-pages : goal.invariant-pages
 invariant-pages g l = record {
   kept : Kept (g.K.Keeper.state l.fn.keeper) (g.K.Keeper.state l.keeper);
-  told : ToldAll (g.K.Keeper.state l.fn.keeper) (map pair_of l.all.items);
+  told : ToldAll (g.K.Keeper.state l.keeper) (map pair_of l.all.items);
   rising : RiseAfter Start (map pair_of l.all.items);
 }
 
