@@ -68,7 +68,6 @@ impl Sink for GrowingSink {
         ensures full { OnErr result (self.old.capacity - length self.old.bytes < length bytes.now) }
         ensures room { IfOk result (λ count. self.old.capacity - length self.old.bytes ≤ self.new.capacity - length self.new.bytes + count) }
         ensures cause { HasCause self.old.faults self.new.faults result }
-        ensures risen { OnErr result (self.old.faults < self.new.faults) }
         ensures all { IfOk result (λ count. count ≡ length bytes.now) }
         ensures taken { OnOk result (self.new.bytes ≡ self.old.bytes ++ bytes.now) }
         ensures grown { OnOk result (self.old.capacity ≤ self.new.capacity) }

@@ -128,7 +128,6 @@ impl Source for MemorySource {
         ensures bytes { ReadConsumes (Some self.old.left) (Some self.new.left) result buf.new }
         ensures given { ReadGives (Some self.old.given) (Some self.new.given) result buf.new }
         ensures cause { HasCause self.old.faults self.new.faults result }
-        ensures risen { OnErr result (self.old.faults < self.new.faults) }
         ensures exact { IsErr result ↔ IsTrue (is_listed self.old.fails self.old.calls) }
         ensures count { IfOk result (λ n. n ≡ min (length buf.old) (length self.old.left)) }
         ensures counted { self.new ≡ after_read self.old (length buf.old) }
@@ -224,7 +223,6 @@ impl Sink for MemorySink {
         ensures full { OnErr result (IfSome (sure_room self.old) (λ n. n < length bytes.now)) }
         ensures room { IfOk result (λ count. RoomLeft (sure_room self.old) (sure_room self.new) count) }
         ensures cause { HasCause self.old.faults self.new.faults result }
-        ensures risen { OnErr result (self.old.faults < self.new.faults) }
         ensures exact { IsErr result ↔ IsTrue (is_refused self.old bytes.now) }
         ensures count { IfOk result (λ n. n ≡ min (length bytes.now) (room_left self.old)) }
         ensures counted { self.new ≡ after_write self.old bytes.now }

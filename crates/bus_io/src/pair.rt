@@ -63,7 +63,6 @@ impl Source for MemoryConn {
         ensures bytes { ReadConsumes (Some self.old.from.left) (Some self.new.from.left) result buf.new }
         ensures given { ReadGives (Some self.old.from.given) (Some self.new.from.given) result buf.new }
         ensures cause { HasCause self.old.from.faults self.new.from.faults result }
-        ensures risen { OnErr result (self.old.from.faults < self.new.from.faults) }
         ensures beside { self.new.to ≡ self.old.to }
         ensures exact { IsErr result ↔ IsTrue (is_listed self.old.from.fails self.old.from.calls) }
         ensures counted { self.new.from ≡ after_read self.old.from (length buf.old) }
@@ -93,7 +92,6 @@ impl Sink for MemoryConn {
         ensures full { OnErr result (IfSome (sure_room self.old.to) (λ n. n < length bytes.now)) }
         ensures room { IfOk result (λ count. RoomLeft (sure_room self.old.to) (sure_room self.new.to) count) }
         ensures cause { HasCause self.old.to.faults self.new.to.faults result }
-        ensures risen { OnErr result (self.old.to.faults < self.new.to.faults) }
         ensures beside { self.new.from ≡ self.old.from }
         ensures exact { IsErr result ↔ IsTrue (is_refused self.old.to bytes.now) }
         ensures counted { self.new.to ≡ after_write self.old.to bytes.now }

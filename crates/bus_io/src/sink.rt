@@ -32,6 +32,5 @@ pub trait Sink {
         ensures full { OnErr result (IfSome (room self.old) (λ n. n < length bytes.now)) }
         ensures room { IfOk result (λ count. RoomLeft (room self.old) (room self.new) count) }
         ensures cause { HasCause (faults self.old) (faults self.new) result }
-        ensures risen { OnErr result (faults self.old < faults self.new) }
         ensures beside { beside self.new ≡ beside self.old };
 }

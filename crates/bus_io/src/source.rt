@@ -1,4 +1,4 @@
-ghost use Rattle.std.specs.Prelude.{List, ℕ, Option, ◌≡◌, ◌<◌, OnErr};
+ghost use Rattle.std.specs.Prelude.{List, ℕ, Option, ◌≡◌};
 ghost use Rattle.std.specs.Io.{ReadsAtMost};
 ghost use Rattle.std.specs.Io.KnownBytes.{ReadConsumes};
 ghost use Rattle.bus_types.specs.Causes.{HasCause};
@@ -30,6 +30,5 @@ pub trait Source {
         ensures bytes { ReadConsumes (left self.old) (left self.new) result buf.new }
         ensures given { ReadGives (given self.old) (given self.new) result buf.new }
         ensures cause { HasCause (faults self.old) (faults self.new) result }
-        ensures risen { OnErr result (faults self.old < faults self.new) }
         ensures beside { beside self.new ≡ beside self.old };
 }

@@ -1,4 +1,4 @@
-ghost use Rattle.std.specs.Prelude.{◌≡◌, ◌<◌, ℕ, refl, None, OnErr};
+ghost use Rattle.std.specs.Prelude.{◌≡◌, ℕ, refl, None};
 ghost use Rattle.std.specs.Io.{ReadsAtMost, WritesAtMost};
 ghost use Rattle.std.specs.Io.KnownBytes.{ReadConsumes, WriteAppends};
 ghost use Rattle.bus_types.specs.Causes.{HasCause};
@@ -57,7 +57,6 @@ impl<T: Read + Write> Source for Streaming<T> {
     fn read(&mut self, buf: &mut [u8]) -> Result<usize, Failed>
         ensures bound { ReadsAtMost result buf.new }
         ensures cause { HasCause self.old.read_faults self.new.read_faults result }
-        ensures risen { OnErr result (self.old.read_faults < self.new.read_faults) }
         ensures beside { self.new.write_faults ≡ self.old.write_faults }
         ensures stream { ReadConsumes (T.remaining self.old.inner) (T.remaining self.new.inner) result buf.new }
     {
@@ -85,7 +84,6 @@ impl<T: Read + Write> Sink for Streaming<T> {
         ensures bound { WritesAtMost result bytes.now }
         ensures some { TakesSome result bytes.now }
         ensures cause { HasCause self.old.write_faults self.new.write_faults result }
-        ensures risen { OnErr result (self.old.write_faults < self.new.write_faults) }
         ensures beside { self.new.read_faults ≡ self.old.read_faults }
         ensures stream { WriteAppends (T.contents self.old.inner) (T.contents self.new.inner) result bytes.now }
     {

@@ -22,7 +22,6 @@ pub fn write_all<W: Sink>(out: &mut W, bytes: &[u8]) -> Result<(), WriteFault>
     ensures short { IfErr result (λ fault. fault.written < length bytes.now) }
     ensures full { OnErr result (IfSome (W.room out.old) (λ n. n < length bytes.now)) }
     ensures room { OnOk result (RoomLeft (W.room out.old) (W.room out.new) (length bytes.now)) }
-    ensures risen { OnErr result (W.faults out.old < W.faults out.new) }
     ensures beside { W.beside out.new ≡ W.beside out.old }
     ensures cause { HasCause (W.faults out.old) (W.faults out.new) result }
 {
