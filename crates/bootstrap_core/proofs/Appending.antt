@@ -1,5 +1,5 @@
 -- Windows that are appended to the log of a bootstrap, one after the other.
-use Rattle.std.proofs.Common.{◌≡◌, ℕ, zero, suc, ◌+◌, ◌<◌, ◌≤◌, inl, inr, Bool, false, List, [], ◌∷◌, ◌++◌, length, get_or, take, Option, Some, None, Result, Ok, Err, refl, sym, ap, subst, ◌∙◌, append_assoc, append-nil, arith}
+use Rattle.std.proofs.Common.{◌≡◌, ℕ, zero, suc, ◌+◌, ◌<◌, ◌≤◌, inl, inr, Bool, true, false, List, [], ◌∷◌, ◌++◌, length, get_or, take, Option, Some, None, Result, Ok, Err, refl, sym, ap, subst, ◌∙◌, append_assoc, append-nil, arith}
 use Rattle.std.specs.Prelude.{option_map, slice_get, IfSome, IfOk}
 use Rattle.std.proofs.lemmas.Bool.{ltb-false}
 use Rattle.std.proofs.lemmas.List.{take_more, take_all, take-take, length-take, length-append}
@@ -14,7 +14,8 @@ use Rattle.bus_stores.specs.Log.{LogState, LogRoom, IsLog, IsRoomy, AppendsWindo
 use Rattle.bootstrap_core.specs.declared.fault.TakeLog.{TakeLog}
 use Rattle.bootstrap_core.specs.declared.fault.TakeLog.TheVariants.{BadReply, Gap, Full, LogFailed, Halted, NoMemory}
 use Rattle.bootstrap_core.specs.Boot.{BootState}
-use Rattle.bootstrap_core.specs.Logging.{log_ask, IsAnswered, AreWindowsBehind, IsChained, FitsRoom, Logged, LogsWindow, LogsEach, TakesLog}
+use Rattle.bootstrap_core.specs.Logging.{log_ask, IsAnswered, AreWindowsBehind, IsChained, IsFirstMark, FindsRoom, FitsRoom, Logged, LogsWindow, LogsEach, TakesLog}
+use Rattle.bootstrap_core.proofs.FirstMarks.{first_unchained, first_place}
 
 -- ---- what was appended
 
@@ -117,7 +118,7 @@ module _ (ws : List Span) (i : ℕ) (w : Span) (old mid new : BootState) (within
         mark = b.mark ∙ a.mark;
       }
   logs_broken X Halted a later b = b
-  logs_broken X NoMemory a later b = record { done = i; some = within; logged = logs_same (take i ws) old mid new a b }
+  logs_broken X NoMemory a later b = record { done = i; some = within; logged = logs_same (take i ws) old mid new a b.1; room = subst (FindsRoom new.log) (sym there) b.0 }
 
 -- all were
 pub logs_all : (ws : List Span) (i : ℕ) (old new : BootState) → length ws ≤ i → Logged (take i ws) old new → Logged ws old new
@@ -167,9 +168,10 @@ logs_takes (Err NoMemory) count bytes ws old new are chained logs high = record 
   windows = ws;
   are = are;
   done = logs.done;
-  chained = λ _. chained;
+  chained = chained;
   some = λ _. logs.some;
   logged = front_of_front logs.done count ws old new logs.some logs.logged;
+  room = logs.room;
 }
 
 -- an answer was taken
@@ -190,12 +192,43 @@ answer_takes (Err Halted) count bytes s answer lawful is = absurd is
 answer_takes (Err NoMemory) count bytes s answer lawful is = absurd is
 
 -- memory ran out before a window was appended
-pub takes_none : (count : ℕ) (bytes : List ℕ) (ws : List Span) (s : BootState) → AreWindowsBehind s.log.high bytes ws → TakesLog (Err NoMemory) count bytes s s
-takes_none count bytes ws s are = record {
+pub takes_none : (count : ℕ) (bytes : List ℕ) (ws : List Span) (s : BootState) → AreWindowsBehind s.log.high bytes ws → IsChained s.log.high ws → FindsRoom s.log (slice_get (take count ws) 0) → TakesLog (Err NoMemory) count bytes s s
+takes_none count bytes ws s are chained room = record {
   windows = ws;
   are = are;
   done = 0;
-  chained = λ h. absurd (omega (arith, h));
+  chained = chained;
   some = λ h. absurd (omega (arith, h));
   logged = logs_none s;
+  room = room;
 }
+
+-- the first window doesn't follow the log's newest one
+pub takes_unchained : (count place prev : ℕ) (bytes : List ℕ) (ws : List Span) (s : BootState) → AreWindowsBehind s.log.high bytes ws → IsFirstMark ws place prev → (prev ≡ s.log.high → ⊥) → TakesLog (Err (BadReply place)) count bytes s s
+takes_unchained count place prev bytes ws s are mark other = (refl, inr (ws, are, first_unchained ws place prev s.log.high mark other, first_place ws place prev mark))
+
+-- it finds no room
+pub takes_full : (count place prev need : ℕ) (bytes : List ℕ) (ws : List Span) (s : BootState) → 0 < count → AreWindowsBehind s.log.high bytes ws → IsFirstMark ws place prev → prev ≡ s.log.high → need ≡ place + 17 → s.log.full need ≡ true → TakesLog (Err (Full need)) count bytes s s
+takes_full count place prev need bytes [] s some are mark chained size full = absurd mark
+takes_full zero place prev need bytes (w ∷ ws) s some are mark chained size full = absurd (omega (arith, some))
+takes_full (suc count) place prev need bytes (w ∷ ws) s some are mark chained size full = record {
+  windows = w ∷ ws;
+  are = are;
+  chained = sym mark.1 ∙ chained;
+  done = 0;
+  some = omega arith;
+  logged = logs_none s;
+  next = w;
+  is_next = refl;
+  need_is = size ∙ mark.0;
+  full = full;
+}
+
+-- it finds room, or isn't to be appended
+pub first_room : (count place prev need : ℕ) (ws : List Span) (log : LogState) → IsFirstMark ws place prev → need ≡ place + 17 → log.full need ≡ false → FindsRoom log (slice_get (take count ws) 0)
+first_room count place prev need [] log mark size free = absurd mark
+first_room zero place prev need (w ∷ ws) log mark size free = tt
+first_room (suc count) place prev need (w ∷ ws) log mark size free = subst (λ n. log.full n ≡ false) (size ∙ mark.0) free
+
+pub no_room : (count : ℕ) (ws : List Span) (log : LogState) → count ≡ 0 → FindsRoom log (slice_get (take count ws) 0)
+no_room count ws log none = subst (λ n. FindsRoom log (slice_get (take n ws) 0)) (sym none) tt

@@ -7,6 +7,7 @@ pub mod NewestRead
 pub mod StandingMoves
 pub mod BetweenEnds
 pub mod CrashBounds
+pub mod FirstMarks
 pub mod BaseFloors
 pub mod SettingBases
 pub mod TrimSteps

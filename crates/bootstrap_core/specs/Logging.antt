@@ -1,5 +1,5 @@
 -- What a bootstrap makes of the relay's reply.
-use Rattle.std.specs.Prelude.{◌≡◌, ℕ, ◌-◌, ◌<◌, ◌≤◌, ◌⊎◌, true, false, List, [], ◌∷◌, ◌++◌, length, take, option_map, slice_get, Option, Some, IfSome, Result, Ok, Err}
+use Rattle.std.specs.Prelude.{◌≡◌, ℕ, ◌+◌, ◌-◌, ◌<◌, ◌≤◌, ◌⊎◌, true, false, List, [], ◌∷◌, ◌++◌, length, take, option_map, slice_get, Option, Some, IfSome, Result, Ok, Err}
 use Rattle.bus_types.specs.Causes.{Rose}
 use Rattle.bus_types.specs.Window.{Span, span_size}
 use Rattle.bus_types.specs.Timeline.{end_from, total_size}
@@ -81,14 +81,19 @@ pub record Fills (need count : ℕ) (bytes : List ℕ) (old new : BootState) : T
   pub need_is : need ≡ span_size next
   pub full : new.log.full need ≡ true
 
--- of the first so many windows of a reply some were appended, and not the last of them; or none was
+-- there is no such window, or it finds room
+abbrev pub FindsRoom : LogState → Option Span → Type 0
+FindsRoom log next = IfSome next (λ w. log.full (span_size w) ≡ false)
+
+-- of the first so many windows of a reply some were appended, and not the last of them; or none was. The next one found room
 pub record LogsSome (count : ℕ) (bytes : List ℕ) (old new : BootState) : Type 0 where
   pub windows : List Span
   pub are : AreWindowsBehind old.log.high bytes windows
   pub done : ℕ
-  pub chained : 0 < done → IsChained old.log.high windows
+  pub chained : IsChained old.log.high windows
   pub some : 0 < done → done < length (take count windows)
   pub logged : Logged (take done windows) old new
+  pub room : FindsRoom new.log (slice_get (take count windows) done)
 
 -- the log failed, which no sound log does, and the bootstrap halted
 pub record LogBreaks (old new : BootState) : Type 0 where
@@ -114,6 +119,12 @@ TakesLog (Err LogFailed) count bytes old new = ((ws : List Span) × AreWindowsBe
 TakesLog (Err Halted) count bytes old new = SameBoot old new
 TakesLog (Err NoMemory) count bytes old new = LogsSome count bytes old new
 
+-- ---- what a crash leaves
+
+-- the windows that a call may append: the first so many of a reply whose windows follow the log's newest one, or none
+abbrev pub AreBrought : ℕ → List ℕ → ℕ → List Span → Type 0
+AreBrought count bytes high brought = (brought ≡ []) ⊎ ((ws : List Span) × AreWindowsBehind high bytes ws × IsChained high ws × (brought ≡ take count ws))
+
 -- ---- a reply that is true
 
 -- the bytes are what a relay of this timeline replies to who asks for all windows behind an SCN: for some floor and end that
@@ -126,6 +137,11 @@ pub record IsRelayReply (ws : List Span) (high : ℕ) (bytes : List ℕ) : Type 
   pub is : bytes ≡ reply_bytes (stream ws floor end high (test_of All) most_bytes)
 
 -- ---- the code's words
+
+-- the mark of the first of these windows stands at this place and has this SCN before it
+abbrev pub IsFirstMark : List Span → ℕ → ℕ → Type 0
+IsFirstMark [] place prev = ⊥
+IsFirstMark (w ∷ ws) place prev = (place + 17 ≡ span_size w) × (prev ≡ w.prev)
 
 -- what an answer in place of windows makes
 abbrev pub IsAnswered : Result ℕ TakeLog → ℕ → Answer → Type 0
@@ -145,7 +161,7 @@ LogsWindow (Err (Gap floor)) w old new = ⊥
 LogsWindow (Err (Full need)) w old new = (need ≡ span_size w) × (new.log.full need ≡ true) × Logged [] old new
 LogsWindow (Err LogFailed) w old new = LogBreaks old new
 LogsWindow (Err Halted) w old new = ⊥
-LogsWindow (Err NoMemory) w old new = Logged [] old new
+LogsWindow (Err NoMemory) w old new = FindsRoom new.log (Some w) × Logged [] old new
 
 -- of windows some were appended, and then the next one found no room
 pub record FillsAt (need : ℕ) (ws : List Span) (old new : BootState) : Type 0 where
@@ -157,11 +173,12 @@ pub record FillsAt (need : ℕ) (ws : List Span) (old new : BootState) : Type 0 
   pub need_is : need ≡ span_size next
   pub full : new.log.full need ≡ true
 
--- some were appended, and not the last one
+-- some were appended, and not the last one, and the next one found room
 pub record StopsWithin (ws : List Span) (old new : BootState) : Type 0 where
   pub done : ℕ
   pub some : done < length ws
   pub logged : Logged (take done ws) old new
+  pub room : FindsRoom new.log (slice_get ws done)
 
 -- they were to be appended
 abbrev pub LogsEach : {X : Type 0} → Result X TakeLog → List Span → BootState → BootState → Type 0

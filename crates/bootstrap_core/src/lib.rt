@@ -6,12 +6,10 @@
 
 mod boot;
 mod fault;
+mod first;
 mod logging;
 mod moving;
 
 pub use boot::Boot;
 pub use bus_stores::BootFault;
 pub use fault::{BootOpen, TakeLog};
-
-#[cfg(test)]
-mod tests;

@@ -1,12 +1,14 @@
-ghost use Rattle.std.specs.Prelude.{◌≡◌, ◌≤◌, ◌↔◌, true, false, List, length, take, MatchOption, IfOk, IfErr, IsErrOf, ℕ};
+ghost use Rattle.std.specs.Prelude.{◌≡◌, ◌≤◌, ◌↔◌, ◌++◌, ◌∷◌, [], true, false, List, length, take, slice_get, Some, Err, IfOk, IfErr, IfSome, IfNone, IsErrOf, ℕ};
 ghost use Rattle.bus_types.specs.Window.{Span};
-ghost use Rattle.bus_types.specs.Timeline.{IsTimeline, IsTimelineFrom, Follows};
+ghost use Rattle.bus_types.specs.Timeline.{IsTimeline, IsTimelineFrom, Follows, end_from};
+ghost use Rattle.bus_stores.specs.Log.{growing_to};
 ghost use Rattle.bus_wire.specs.Lawful.{IsAnswerTo, IsLawful, IsFaultAt};
 ghost use Rattle.bootstrap_core.specs.Boot.{told, Stands};
-ghost use Rattle.bootstrap_core.specs.Logging.{log_ask, TakesLog, IsAnswered, IsRelayReply, AreWindowsBehind, IsChained, first_mark, LogsEach, LogsWindow};
+ghost use Rattle.bootstrap_core.specs.Logging.{log_ask, TakesLog, IsAnswered, IsRelayReply, AreWindowsBehind, AreBrought, IsChained, FindsRoom, LogsEach, LogsWindow};
 
 use crate::boot::Boot;
 use crate::fault::TakeLog;
+use crate::first::first_mark;
 use bus_stores::{Keeper, LogFault, WindowLog};
 use bus_types::Window;
 use bus_wire::{Ask, check_reply};
@@ -28,12 +30,17 @@ impl<G: WindowLog, K: Keeper> Boot<G, K> {
     /// `Halted` comes exactly after a fault of log or keeper. `BadReply` comes exactly where the bytes are no lawful reply, or
     /// where their first window doesn't follow the log's newest one, with the place of that window's mark. `Gap` comes exactly
     /// where the reply says that windows were evicted. `Full` comes exactly where the log has no room for the next window;
-    /// those before it are kept, as they are where memory runs out. `LogFailed` comes only where the log's count rose; the
-    /// bootstrap is then halted.
+    /// those before it are kept, as they are where memory runs out, which comes only where the next window found room.
+    /// `LogFailed` comes only where the log's count rose; the bootstrap is then halted. A crash meanwhile leaves the log's
+    /// windows that were told, and of those that this call appends the oldest, however many.
     pub fn take_log(&mut self, alloc: Global, reply: &[u8], n: u32) -> Result<u64, TakeLog>
         ensures halted { IsErrOf result TakeLog.Halted ↔ (self.old.halted ≡ true) }
         ensures takes { TakesLog result n reply.now (told G.state K.state self.old) (told G.state K.state self.new) }
         ensures faults { (G.state self.old.log).faults ≤ (G.state self.new.log).faults }
+        ensures room { (G.state self.new.log).room ≡ (G.state self.old.log).room }
+        ensures keeper { self.new.keeper ≡ self.old.keeper }
+        ensures crash { self.old.halted ≡ false → IfSome (G.state self.old.log).windows (λ held. (brought : List Span) × AreBrought n reply.now (G.state self.old.log).high brought ×
+            G.passes (held ++ brought) (growing_to (end_from (G.state self.old.log).high brought) (G.state self.old.log)) self.old.log self.new.log) }
 
         // One that stands for a timeline still does after a reply that is true of it, unless it is halted.
         ensures stands { (ws : List Span) → IsTimeline ws → Stands ws (told G.state K.state self.old) → IsRelayReply ws (G.state self.old.log).high reply.now →
@@ -62,13 +69,60 @@ impl<G: WindowLog, K: Keeper> Boot<G, K> {
         requires windows { (ws : List Span) × AreWindowsBehind high reply.now ws }
         ensures takes { TakesLog result n reply.now (told G.state K.state self.old) (told G.state K.state self.new) }
         ensures faults { (G.state self.old.log).faults ≤ (G.state self.new.log).faults }
+        ensures room { (G.state self.new.log).room ≡ (G.state self.old.log).room }
+        ensures keeper { self.new.keeper ≡ self.old.keeper }
+        ensures runs { IsErrOf result TakeLog.Halted → ⊥ }
+        ensures crash { IfSome (G.state self.old.log).windows (λ held. (brought : List Span) × AreBrought n reply.now (G.state self.old.log).high brought ×
+            G.passes (held ++ brought) (growing_to (end_from (G.state self.old.log).high brought) (G.state self.old.log)) self.old.log self.new.log) }
+    {
+        let _rests = self.log.high();
+        let windows = self.windows_to_log(alloc, high, reply, n)?;
+        self.log_each(alloc, first_of(&windows, n))
+    }
+
+    // The windows of a reply, where nothing speaks against the first of them.
+    fn windows_to_log(
+        &self,
+        alloc: Global,
+        high: u64,
+        reply: &[u8],
+        n: u32,
+    ) -> Result<Vec<Window>, TakeLog>
+        requires high { high ≡ (G.state self.now.log).high }
+        requires windows { (ws : List Span) × AreWindowsBehind high reply.now ws }
+        ensures windows { IfOk result (λ windows. AreWindowsBehind high reply.now windows.items × IsChained high windows.items) }
+        ensures fault { IfErr result (λ fault. TakesLog (Err fault) n reply.now (told G.state K.state self.now) (told G.state K.state self.now)) }
         ensures runs { IsErrOf result TakeLog.Halted → ⊥ }
     {
-        let windows = split(alloc, high, reply)?;
-        match unchained_mark(&windows, high) {
-            Some(place) => Err(TakeLog::BadReply { place }),
-            None => self.log_each(alloc, first_of(&windows, n)),
+        match self.first_fault(high, reply, n) {
+            Some(fault) => Err(fault),
+            None => split(alloc, high, reply),
         }
+    }
+
+    // What speaks against the first window of a reply: it doesn't follow the log's newest one, or it is to be appended and
+    // finds no room. This is seen before memory is taken.
+    fn first_fault(&self, high: u64, reply: &[u8], n: u32) -> Option<TakeLog>
+        requires high { high ≡ (G.state self.now.log).high }
+        requires windows { (ws : List Span) × AreWindowsBehind high reply.now ws }
+        ensures none { IfNone result ((ws : List Span) → AreWindowsBehind high reply.now ws → IsChained high ws × FindsRoom (G.state self.now.log) (slice_get (take n ws) 0)) }
+        ensures fault { IfSome result (λ fault. TakesLog (Err fault) n reply.now (told G.state K.state self.now) (told G.state K.state self.now)) }
+        ensures runs { result ≡ Some TakeLog.Halted → ⊥ }
+    {
+        let (place, prev) = first_mark(reply);
+        if prev != high {
+            return Some(TakeLog::BadReply {
+                place: place as u64,
+            });
+        }
+        if n == 0 {
+            return None;
+        }
+        let need = place as u64 + MARK_SIZE;
+        if self.log.is_full(need) {
+            return Some(TakeLog::Full { need });
+        }
+        None
     }
 
     // Appends windows.
@@ -77,7 +131,11 @@ impl<G: WindowLog, K: Keeper> Boot<G, K> {
         ensures logs { LogsEach result windows.now (told G.state K.state self.old) (told G.state K.state self.new) }
         ensures high { IfOk result (λ high. high ≡ (G.state self.new.log).high) }
         ensures faults { (G.state self.old.log).faults ≤ (G.state self.new.log).faults }
+        ensures room { (G.state self.new.log).room ≡ (G.state self.old.log).room }
+        ensures keeper { self.new.keeper ≡ self.old.keeper }
+        ensures crash { IfSome (G.state self.old.log).windows (λ held. G.passes (held ++ windows.now) (growing_to (end_from (G.state self.old.log).high windows.now) (G.state self.old.log)) self.old.log self.new.log) }
     {
+        let _rests = self.log.high();
         for window in windows {
             self.log_window(alloc, window)?;
         }
@@ -89,6 +147,9 @@ impl<G: WindowLog, K: Keeper> Boot<G, K> {
         requires { Follows (G.state self.old.log).high window.now }
         ensures logs { LogsWindow result window.now (told G.state K.state self.old) (told G.state K.state self.new) }
         ensures faults { (G.state self.old.log).faults ≤ (G.state self.new.log).faults }
+        ensures room { (G.state self.new.log).room ≡ (G.state self.old.log).room }
+        ensures keeper { self.new.keeper ≡ self.old.keeper }
+        ensures crash { IfSome (G.state self.old.log).windows (λ held. G.passes (held ++ window.now ∷ []) (growing_to window.now.scn (G.state self.old.log)) self.old.log self.new.log) }
     {
         let _room = self.log.high();
         match self.log.append(alloc, window) {
@@ -144,17 +205,6 @@ fn split(alloc: Global, high: u64, reply: &[u8]) -> Result<Vec<Window>, TakeLog>
         Err(SplitFault::NoMemory) => Err(TakeLog::NoMemory),
         Err(SplitFault::Bad { .. }) => unreachable!(),
     }
-}
-
-// The place of the first window's mark, where that window doesn't follow an SCN.
-fn unchained_mark(windows: &[Window], scn: u64) -> Option<u64>
-    ensures { MatchOption result (IsChained scn windows.now) (λ place. (IsChained scn windows.now → ⊥) × (place ≡ first_mark windows.now)) }
-{
-    let first = windows.first()?;
-    if first.prev() == scn {
-        return None;
-    }
-    Some(first.size() - MARK_SIZE)
 }
 
 // The first so many windows, or those there are.

@@ -1,4 +1,6 @@
-use Rattle.std.proofs.Common.{List, subst}
+use Rattle.std.proofs.Common.{List, IfSome, subst}
+use Rattle.bus_stores.specs.Log.{at_rest}
+use Rattle.bootstrap_core.proofs.CrashBounds.{brings_none}
 use Rattle.bus_types.specs.Window.{Span}
 use Rattle.bus_types.proofs.Stretches.{timeline-take}
 use Rattle.bootstrap_core.specs.Boot.{told, BootParts, BootState}
@@ -10,14 +12,20 @@ use Rattle.bootstrap_core.proofs.boot.Boot.log_windows.Goals as goal
 pub log_each-requires : goal.log_each-requires
 log_each-requires g c =
     let windows = c.in_ok-windows.windows.items in
-    let chained : IsChained c.args.high windows = subst (IsChained c.args.high) c.deref.ensures.value c.in-None.ensures in
-    rw (c.first_of.ensures, c.deref-in-None.ensures.value, ← c.requires.high)
-    (timeline-take c.args.high c.args.n windows (run_follows c.args.high windows c.in_ok-windows.ensures.windows.run chained))
+    let chained : IsChained c.args.high windows = c.in_ok-windows.ensures.windows.1 in
+    rw (c.first_of.ensures, c.deref.ensures.value, ← c.requires.high)
+    (timeline-take c.args.high c.args.n windows (run_follows c.args.high windows c.in_ok-windows.ensures.windows.0.run chained))
 
 pub returns-clause-takes : goal.returns-clause-takes
 returns-clause-takes g c =
     let state : BootParts _ _ → BootState = told g.G.WindowLog.state g.K.Keeper.state in
     let windows = c.in_ok-windows.windows.items in
-    let chained : IsChained c.args.high windows = subst (IsChained c.args.high) c.deref.ensures.value c.in-None.ensures in
+    let chained : IsChained c.args.high windows = c.in_ok-windows.ensures.windows.1 in
     logs_takes c.log_each.result c.args.n c.args.reply.now windows (state c.args.self.now) (state c.log_each.new.self)
-    (rw (← c.requires.high) c.in_ok-windows.ensures.windows) (rw (← c.requires.high) chained) (rw (c.first_of.ensures, c.deref-in-None.ensures.value) at c.log_each.ensures.logs) c.log_each.ensures.high
+    (rw (← c.requires.high) c.in_ok-windows.ensures.windows.0) (rw (← c.requires.high) chained) (rw (c.first_of.ensures, c.deref.ensures.value) at c.log_each.ensures.logs) c.log_each.ensures.high
+
+pub returns-in_err-windows-clause-crash : goal.returns-in_err-windows-clause-crash
+returns-in_err-windows-clause-crash g c =
+    let log = c.args.self.now.log in
+    let rests = subst (λ (b : BootParts _ _). IfSome (g.G.WindowLog.state b.log).windows (λ ws. g.G.WindowLog.passes ws (at_rest (g.G.WindowLog.state b.log)) b.log b.log)) c.self.view_is c.high-rests.ensures.crash in
+    brings_none (λ ws b. g.G.WindowLog.passes ws b log log) (g.G.WindowLog.state log) c.args.n c.args.reply.now (λ ws vs b d w p. g.met.G.WindowLog.weakens ws vs b d log log w p) rests

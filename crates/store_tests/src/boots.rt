@@ -1,5 +1,5 @@
-use crate::{Boot, TakeLog};
-use bus_stores::{MemoryKeeper, MemoryLog};
+use bootstrap_core::{Boot, TakeLog};
+use bus_stores::{MemoryKeeper, MemoryLog, WindowLog};
 use bus_types::{Change, Key, NoMemory, Payload, Window};
 use event_codec::{Answer, write_window};
 use std::alloc::Global;
