@@ -16,6 +16,3 @@ pub use fault::FilterFault;
 pub use filter::Filter;
 pub use rows::{the_limits_of_filters, what_filters_mean, worked_filters};
 pub use rule::{Keys, Numbers, Rule};
-
-#[cfg(test)]
-mod tests;

@@ -3,6 +3,12 @@
 #![tactic(auto)]
 
 #[cfg(test)]
+mod buffer;
+#[cfg(test)]
+mod filter;
+#[cfg(test)]
+mod relay;
+#[cfg(test)]
 mod source;
 #[cfg(test)]
 mod streams;
