@@ -3,7 +3,11 @@
 #![tactic(auto)]
 
 #[cfg(test)]
+mod codec;
+#[cfg(test)]
 mod source;
+#[cfg(test)]
+mod splitter;
 #[cfg(test)]
 mod streams;
 #[cfg(test)]
