@@ -1,3 +1,4 @@
 pub mod Cursors
 pub mod Printed
 pub mod ReadBack
+pub mod TextBounds

@@ -1,5 +1,5 @@
 -- Marks: their rules, and the one text of each.
-use Rattle.std.specs.Prelude.{ℕ, ◌<◌, ◌≤◌, ◌^◌, List, ◌++◌, codes, decimal}
+use Rattle.std.specs.Prelude.{◌≡◌, ℕ, ◌<◌, ◌≤◌, ◌^◌, List, ◌++◌, length, get_or, codes, decimal}
 use Rattle.bus_types.specs.declared.row.Cursor.{Cursor}
 use Rattle.bus_types.specs.declared.row.Cursor.TheVariants.{Start, After}
 use Rattle.bus_types.specs.declared.limits.TheConstants.{MAX_SCN}
@@ -36,6 +36,13 @@ mark_text (Scanned since start top) =
     codes "{\"mode\":\"scanned\",\"since\":" ++ decimal since ++ codes ",\"start\":" ++ decimal start ++ codes ",\"top\":" ++ decimal top ++ codes "}"
 mark_text (Catchup since start target at) =
     codes "{\"at\":" ++ decimal at ++ codes ",\"mode\":\"catchup\",\"since\":" ++ decimal since ++ codes ",\"start\":" ++ decimal start ++ codes ",\"target\":" ++ decimal target ++ codes "}"
+
+-- bytes that may be the text of a mark, by their number and the first of them: no text of a mark has fewer or more, and each
+-- begins with a brace
+pub record MayBeMark (text : List ℕ) : Type 0 where
+  pub least : 25 ≤ length text
+  pub most : length text ≤ 139
+  pub first : get_or text 0 0 ≡ 123
 
 -- the SCN that the consumer stands at, or stood at before it began to move
 abbrev pub floor_of : Mark → ℕ

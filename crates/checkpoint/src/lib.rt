@@ -11,6 +11,3 @@ mod writing;
 
 pub use laws::{a_mark_has_one_text, worked_texts};
 pub use mark::{Mark, MarkFault};
-
-#[cfg(test)]
-mod tests;

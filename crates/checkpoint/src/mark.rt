@@ -1,9 +1,9 @@
 ghost use Rattle.std.specs.Prelude.{◌≡◌, IfOk, IsErrOf};
 ghost use Rattle.checkpoint.specs.declared.mark.Mark.{Mark};
 ghost use Rattle.checkpoint.specs.declared.mark.MarkFault.TheVariants as faults;
-ghost use Rattle.checkpoint.specs.Mark.{IsMark, mark_text, floor_of};
+ghost use Rattle.checkpoint.specs.Mark.{IsMark, MayBeMark, mark_text, floor_of};
 
-use crate::reading::candidate;
+use crate::reading::{candidate, may_be_mark};
 use crate::writing::text_of;
 use bus_types::{Cursor, MarkText, NoMemory};
 use std::alloc::Global;
@@ -72,11 +72,15 @@ pub enum MarkFault {
 
 impl Mark {
     /// The mark of this text, read exactly: `BadMark` comes exactly where no mark has the text, and `NoMemory` where
-    /// memory ran out.
+    /// memory ran out. A text of fewer than 25 or more than 139 bytes, or that doesn't begin with a brace, takes no memory.
     pub fn read(alloc: Global, text: &MarkText) -> Result<Mark, MarkFault>
         ensures found { IfOk result (λ mark. IsMark mark × (text.now ≡ mark_text mark)) }
         ensures bad { IsErrOf result MarkFault.BadMark → (mark : Mark) → IsMark mark → text.now ≡ mark_text mark → ⊥ }
+        ensures memory { IsErrOf result MarkFault.NoMemory → MayBeMark text.now }
     {
+        if !may_be_mark(text.bytes()) {
+            return Err(MarkFault::BadMark);
+        }
         let mark = candidate(alloc, text.bytes())?;
         let written = mark.write(alloc)?;
         if written.bytes() != text.bytes() {

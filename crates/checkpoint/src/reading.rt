@@ -2,7 +2,7 @@ ghost use Rattle.std.specs.Prelude.{◌≡◌, ◌↔◌, Some, None, IfOk, IsEr
 ghost use Rattle.serde_json.specs.Read.{read};
 ghost use Rattle.serde_json.specs.View.{view};
 ghost use Rattle.checkpoint.specs.declared.mark.Mark.{Mark};
-ghost use Rattle.checkpoint.specs.Mark.{IsMark, mark_text};
+ghost use Rattle.checkpoint.specs.Mark.{IsMark, MayBeMark, mark_text};
 ghost use Rattle.checkpoint.specs.Members.{text_at, number_at, cursor_at, online_in, delta_in, snapshot_in, scanned_in, catchup_in, mode_in, mark_in};
 
 use crate::cursor::cursor_of;
@@ -10,6 +10,13 @@ use crate::mark::{Mark, MarkFault};
 use bus_types::{Cursor, MAX_SCN};
 use serde_json::Value;
 use std::alloc::Global;
+
+/// Whether bytes can be the text of a mark, by their number and the first of them.
+pub(crate) fn may_be_mark(bytes: &[u8]) -> bool
+    ensures { IsTrue result ↔ MayBeMark bytes.now }
+{
+    bytes.len() >= 25 && bytes.len() <= 139 && bytes[0] == b'{'
+}
 
 /// The only mark whose text the bytes can be.
 pub(crate) fn candidate(alloc: Global, bytes: &[u8]) -> Result<Mark, MarkFault>

@@ -11,3 +11,4 @@ pub mod Reply
 pub mod Questions
 pub mod Chunks
 pub mod Parsing
+pub mod Forms
