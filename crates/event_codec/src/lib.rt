@@ -25,6 +25,3 @@ pub use lent::{Run, WindowView, Windows};
 pub use mark::{MARK_SIZE, mark_at, mark_bytes};
 pub use reply::{Served, Shape};
 pub use write::{event_head, write_filtered, write_window};
-
-#[cfg(test)]
-mod tests;

@@ -9,6 +9,3 @@ mod splitter;
 
 pub use laws::a_stream_is_split_in_one_way;
 pub use splitter::{SplitFault, Splitter};
-
-#[cfg(test)]
-mod tests;

@@ -9,7 +9,11 @@ mod filter;
 #[cfg(test)]
 mod relay;
 #[cfg(test)]
+mod codec;
+#[cfg(test)]
 mod source;
+#[cfg(test)]
+mod splitter;
 #[cfg(test)]
 mod streams;
 #[cfg(test)]

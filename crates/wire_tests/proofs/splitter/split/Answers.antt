@@ -1,6 +1,6 @@
 use Rattle.std.proofs.Common.{arith}
 use Rattle.window_stream.proofs.Splits.{feeds_fit}
-use Rattle.window_stream.proofs.tests.split.Goals as goal
+use Rattle.wire_tests.proofs.splitter.split.Goals as goal
 
 pub loop-last-preserved : goal.loop-last-preserved
 loop-last-preserved c = λ good.
