@@ -7,7 +7,6 @@ use Rattle.bus_types.specs.Causes.{HasCause}
 use Rattle.log_disk.specs.Disk.{Only, DiskState, may_leave, Elapses, IsDisk, DiskCall, Follows, Torn, CutAnywhere, Given, Keeps, Writes, Cuts, Syncs}
 use Rattle.log_disk.specs.Pending.{MayLeave, Content, lasting, put, Step, after, after_all}
 use Rattle.log_disk.specs.Pending.Step.{Wrote, CutTo, Synced}
-use Rattle.log_disk.specs.Counts.{next_count}
 use Rattle.log_disk.specs.Memory.{exceeds, new_disk, MemoryState, content, LeftSince, clock_of, told_disk, disk_of, IsContent, failed, failed_if, counted, used, stepped, FailsWhere}
 use Rattle.log_disk.proofs.Contents.{same_fronts, same_rests, length-put, put_outside, write_follows, cut_follows, lasting_only, write_content, cut_content, sync_content, after_all-push}
 
@@ -65,7 +64,7 @@ same_steps true s = refl
 same_steps false s = refl
 
 -- the cause of a refusal
-pub refusal : {X : Type 0} (f : ℕ) (e : Failed) → f ≤ next_count f → HasCause {T = X} {E = Failed} f (next_count f) (Err e)
+pub refusal : {X : Type 0} (f : ℕ) (e : Failed) → f ≤ f + 1 → HasCause {T = X} {E = Failed} f (f + 1) (Err e)
 refusal f e later = record { later = later; failed = omega arith }
 
 pub answer_cause : {X : Type 0} (listed : Bool) (s : MemoryState) (result : Result X Failed) → FailsWhere listed result → s.faults ≤ (failed_if listed s).faults → HasCause s.faults (failed_if listed s).faults result
@@ -89,16 +88,16 @@ uncut : (size : ℕ) (c : List ℕ) → CutAnywhere size c c
 uncut size c = record { no_shorter = omega arith; front = take_all (length c) c (omega arith) }
 
 -- a write was refused
-pub write_refused : (place : ℕ) (text : List ℕ) (s : MemoryState) (e : Failed) → IsContent (content s) → s.faults ≤ next_count s.faults → Writes place text (disk_of s) (disk_of (failed s)) (Err e)
+pub write_refused : (place : ℕ) (text : List ℕ) (s : MemoryState) (e : Failed) → IsContent (content s) → s.faults ≤ s.faults + 1 → Writes place text (disk_of s) (disk_of (failed s)) (Err e)
 write_refused place text s e whole later = record {
-  call = record { time = elapses_same s.start s.steps; cause = refusal s.faults e later; disk = is_disk s.start s.steps (next_count s.faults) whole };
+  call = record { time = elapses_same s.start s.steps; cause = refusal s.faults e later; disk = is_disk s.start s.steps (s.faults + 1) whole };
   crash = λ c left. (c, left, torn_same place (length text) c);
   seen = torn_same place (length text) (content s).bytes;
 }
 
-pub cut_refused : (size : ℕ) (s : MemoryState) (e : Failed) → IsContent (content s) → s.faults ≤ next_count s.faults → Cuts size (disk_of s) (disk_of (failed s)) (Err e)
+pub cut_refused : (size : ℕ) (s : MemoryState) (e : Failed) → IsContent (content s) → s.faults ≤ s.faults + 1 → Cuts size (disk_of s) (disk_of (failed s)) (Err e)
 cut_refused size s e whole later = record {
-  call = record { time = elapses_same s.start s.steps; cause = refusal s.faults e later; disk = is_disk s.start s.steps (next_count s.faults) whole };
+  call = record { time = elapses_same s.start s.steps; cause = refusal s.faults e later; disk = is_disk s.start s.steps (s.faults + 1) whole };
   crash = λ c left. (c, left, uncut size c);
   seen = inr refl;
 }
@@ -187,19 +186,19 @@ kept_cause f x = record { later = omega arith; failed = tt }
 pub writes : (listed : Bool) (place : ℕ) (text : List ℕ) (s : MemoryState) (result : Result Unit Failed) → IsContent (content s) → place ≤ length (content s).bytes → FailsWhere listed result
     → s.faults ≤ (failed_if listed (stepped (Wrote place text) (used (length text) (counted s)))).faults → Writes place text (disk_of s) (disk_of (failed_if listed (stepped (Wrote place text) (used (length text) (counted s))))) result
 writes true place text s (Ok x) whole fits fails later = absurd (cc fails)
-writes true place text s (Err e) whole fits fails later = written_err s.start s.steps whole place text s.faults (next_count s.faults) e fits (refusal s.faults e later)
+writes true place text s (Err e) whole fits fails later = written_err s.start s.steps whole place text s.faults (s.faults + 1) e fits (refusal s.faults e later)
 writes false place text s (Ok x) whole fits fails later = written_ok s.start s.steps whole place text s.faults s.faults x fits (kept_cause s.faults x)
 writes false place text s (Err e) whole fits fails later = absurd (cc fails)
 
 pub cuts : (listed : Bool) (size : ℕ) (s : MemoryState) (result : Result Unit Failed) → IsContent (content s) → size ≤ length (content s).bytes → FailsWhere listed result
     → s.faults ≤ (failed_if listed (stepped (CutTo size) (counted s))).faults → Cuts size (disk_of s) (disk_of (failed_if listed (stepped (CutTo size) (counted s)))) result
 cuts true size s (Ok x) whole fits fails later = absurd (cc fails)
-cuts true size s (Err e) whole fits fails later = cut_err s.start s.steps whole size s.faults (next_count s.faults) e fits (refusal s.faults e later)
+cuts true size s (Err e) whole fits fails later = cut_err s.start s.steps whole size s.faults (s.faults + 1) e fits (refusal s.faults e later)
 cuts false size s (Ok x) whole fits fails later = cut_ok s.start s.steps whole size s.faults s.faults x fits (kept_cause s.faults x)
 cuts false size s (Err e) whole fits fails later = absurd (cc fails)
 
-pub sync_refused : (s : MemoryState) (e : Failed) → IsContent (content s) → s.faults ≤ next_count s.faults → Syncs (disk_of s) (disk_of (failed s)) (Err e)
-sync_refused s e whole later = record { keeps = keeps s.start s.steps s.faults (next_count s.faults) _ whole (refusal s.faults e later); lasting = tt }
+pub sync_refused : (s : MemoryState) (e : Failed) → IsContent (content s) → s.faults ≤ s.faults + 1 → Syncs (disk_of s) (disk_of (failed s)) (Err e)
+sync_refused s e whole later = record { keeps = keeps s.start s.steps s.faults (s.faults + 1) _ whole (refusal s.faults e later); lasting = tt }
 
 pub syncs : (s : MemoryState) (x : Unit {0}) → IsContent (content s) → Syncs (disk_of s) (disk_of (stepped Synced (counted s))) (Ok x)
 syncs s x whole = synced_ok s.start s.steps whole s.faults s.faults x (kept_cause s.faults x)
@@ -224,7 +223,7 @@ module _ (s new : MemoryState) (whole : IsContent (content s)) where
   refused_cut size e is later = subst (λ (x : MemoryState). Cuts size (disk_of s) (disk_of x) (Err e)) (sym is) (cut_refused size s e whole (faults_of (failed s) is later))
 
   pub refused : {X : Type 0} (e : Failed) → new ≡ failed s → s.faults ≤ new.faults → Keeps {X = X} (disk_of s) (disk_of new) (Err e)
-  refused {X = X} e is later = subst (λ (x : MemoryState). Keeps {X = X} (disk_of s) (disk_of x) (Err e)) (sym is) (keeps s.start s.steps s.faults (next_count s.faults) (Err e) whole (refusal s.faults e (faults_of (failed s) is later)))
+  refused {X = X} e is later = subst (λ (x : MemoryState). Keeps {X = X} (disk_of s) (disk_of x) (Err e)) (sym is) (keeps s.start s.steps s.faults (s.faults + 1) (Err e) whole (refusal s.faults e (faults_of (failed s) is later)))
 
   module _ (mid : MemoryState) (listed : Bool) where
     pub made_write : (place : ℕ) (text : List ℕ) (result : Result Unit Failed) → place ≤ length (content s).bytes → mid ≡ stepped (Wrote place text) (used (length text) (counted s)) → new ≡ failed_if listed mid

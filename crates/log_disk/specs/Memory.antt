@@ -58,7 +58,7 @@ is_listed s = list_any (λ call. call == s.next) s.fails
 
 -- a call failed
 abbrev pub failed : MemoryState → MemoryState
-failed s = record s { faults = next_count s.faults }
+failed s = record s { faults = s.faults + 1 }
 
 -- a call was counted
 abbrev pub counted : MemoryState → MemoryState

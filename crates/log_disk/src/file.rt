@@ -3,7 +3,7 @@ ghost use Rattle.bus_types.specs.Causes.{HasCause};
 ghost use Rattle.log_disk.specs.File.{untold_disk};
 
 use crate::disk::Disk;
-use bus_types::Failed;
+use bus_types::{Count, Failed};
 use std::fs::File;
 use std::io;
 use std::os::unix::fs::FileExt;
@@ -13,14 +13,17 @@ use std::os::unix::fs::FileExt;
 #[derive(Drop)]
 pub struct FileDisk {
     file: File,
-    faults: u64,
+    faults: Count,
 }
 
 impl FileDisk {
     /// A disk over a file that was opened for reading and writing. It has not failed yet. The bytes that the file has are
     /// the disk's.
     pub fn new(file: File) -> FileDisk {
-        FileDisk { file, faults: 0 }
+        FileDisk {
+            file,
+            faults: Count::zero(),
+        }
     }
 
     // What a call of the file answered, of which a fault is counted.
@@ -31,7 +34,7 @@ impl FileDisk {
         match given {
             Ok(value) => Ok(value),
             Err(_) => {
-                self.faults = self.faults.saturating_add(1);
+                self.faults.raise();
                 Err(Failed)
             }
         }

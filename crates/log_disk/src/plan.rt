@@ -1,19 +1,19 @@
-ghost use Rattle.std.specs.Prelude.{◌≡◌, ◌<◌, ◌≤◌, ◌-◌, ◌||◌, ◌==◌, nat_lt, [], IfOk};
+ghost use Rattle.std.specs.Prelude.{◌≡◌, ◌<◌, ◌≤◌, ◌+◌, ◌-◌, ◌||◌, ◌==◌, nat_lt, [], IfOk};
 ghost use Rattle.std.specs.List.{list_any};
 ghost use Rattle.log_disk.specs.Counts.{next_count};
 
-use bus_types::{Failed, NoMemory};
+use bus_types::{Count, Failed, NoMemory};
 use std::alloc::Global;
 
 /// How many bytes and calls a disk in memory has room for, the calls that are to fail, the number of the next call, and
-/// how often the disk failed. The last two stop at their type's end.
+/// how often the disk failed. The number of the next call stops at its type's end.
 #[derive(Debug, Drop)]
 pub(crate) struct Plan {
     pub room: u64,
     pub calls: u32,
     pub fails: Vec<u64>,
     pub next: u64,
-    pub faults: u64,
+    pub faults: Count,
 }
 
 impl Plan {
@@ -30,7 +30,7 @@ impl Plan {
             calls,
             fails: Vec::from_slice(alloc, fails)?,
             next: 0,
-            faults: 0,
+            faults: Count::zero(),
         })
     }
 
@@ -59,10 +59,10 @@ impl Plan {
 
     /// Counts a fault.
     pub fn fail(&mut self) -> Failed
-        ensures counted { self.new ≡ record self.old { faults = next_count self.old.faults } }
+        ensures counted { self.new ≡ record self.old { faults = self.old.faults + 1 } }
         ensures later { self.old.faults ≤ self.new.faults }
     {
-        self.faults = self.faults.saturating_add(1);
+        self.faults.raise();
         Failed
     }
 
@@ -73,6 +73,6 @@ impl Plan {
     {
         self.fails.clear();
         self.next = 0;
-        self.faults = 0;
+        self.faults = Count::zero();
     }
 }
