@@ -2,7 +2,7 @@
 use Rattle.std.specs.Prelude.{◌≡◌, ℕ, ◌<◌, ◌≤◌, Bool, false, List, [], length, map, take, slice_get, Option, Some, None, Result, Ok, Err}
 use Rattle.std.specs.List.{AllByRecursion}
 use Rattle.std.specs.Io.KnownBytes.{Appends}
-use Rattle.bus_types.specs.Causes.{Rose}
+use Rattle.bus_types.specs.Causes.{WasCounted}
 use Rattle.bus_types.specs.Window.{Span}
 use Rattle.bus_types.specs.Relay.{Relay, StandsFor}
 use Rattle.partition_filter.specs.Selection.{test_of}
@@ -139,7 +139,7 @@ OnOnline (Catchup since start target at) P = Unit {0}
 
 -- the keeper of a consumer that is online was called
 abbrev pub WasCalled : MemberState → MemberState → Type 0
-WasCalled m n = OnOnline m.client.mark (Rose m.store.calls n.store.calls)
+WasCalled m n = OnOnline m.client.mark (WasCounted m.store.calls n.store.calls)
 
 -- a line that shows a consumer's rows calls its keeper
 abbrev pub Calls : Line → Parts → Parts → Type 0
