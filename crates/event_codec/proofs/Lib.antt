@@ -18,3 +18,4 @@ pub mod Readings
 pub mod ItemsBack
 pub mod Parsings
 pub mod Lendings
+pub mod Replying

@@ -13,7 +13,7 @@ use Rattle.event_codec.specs.declared.head.Head.{Head}
 use Rattle.event_codec.specs.Bytes.{Event, IsEvent, event_bytes, mark_bytes, changes_bytes, window_bytes}
 use Rattle.event_codec.specs.Reading.{head_front, checked, head_of, with_payload, event_front, mark_front}
 use Rattle.event_codec.specs.Streams.{windows_bytes}
-use Rattle.event_codec.specs.Parsing.{read_within, read_all, event_with, event_in_front, events_in, events_bytes, AreEvents, window_with, closed_by_mark, window_in_front, windows_in, AreWindows}
+use Rattle.event_codec.specs.Parsing.{read_within, read_all, event_with, event_in_front, events_in, events_bytes, events_of, AreEvents, window_with, closed_by_mark, window_in_front, windows_in, AreWindows}
 use Rattle.event_codec.proofs.Heads.{some_else}
 use Rattle.event_codec.proofs.EventBytes.{head_and_payload, event_again, put_joined, payload_length}
 use Rattle.event_codec.proofs.Marks.{mark_again}
@@ -77,9 +77,6 @@ events_are es bytes are =
     ap events_in (are.spelled ∙ sym (append-nil (events_bytes es))) ∙ ap (λ (x : List Event × List ℕ). x.0) (events_back es [] are.within no_event_in_nothing)
 
 -- ---- windows
-
-abbrev pub events_of : ℕ → List Change → List Event
-events_of n cs = map (event n) cs
 
 pub events_spelled : (n : ℕ) (cs : List Change) → changes_bytes n cs ≡ events_bytes (events_of n cs)
 events_spelled n [] = refl

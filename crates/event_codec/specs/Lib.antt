@@ -12,3 +12,4 @@ pub mod Questions
 pub mod Chunks
 pub mod Parsing
 pub mod Forms
+pub mod ReplyViews

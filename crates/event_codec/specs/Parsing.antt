@@ -3,6 +3,7 @@
 use Rattle.std.specs.Prelude.{◌≡◌, ℕ, ◌+◌, ◌==◌, if◌then◌else◌, List, [], ◌∷◌, length, drop, map, flat_map, Option, Some, None, option_map}
 use Rattle.std.specs.List.{AllByRecursion}
 use Rattle.bus_types.specs.declared.change.Key.TheVariants.{Long}
+use Rattle.bus_types.specs.declared.change.Change.{Change}
 use Rattle.bus_types.specs.Window.{Span, IsSpan}
 use Rattle.event_codec.specs.declared.head.Head.{Head}
 use Rattle.event_codec.specs.Bytes.{Event, IsEvent, event_bytes, window_bytes}
@@ -86,9 +87,13 @@ abbrev pub first_scn : List Span → Option ℕ
 first_scn [] = None
 first_scn (w ∷ ws) = Some w.scn
 
+-- changes of one SCN, as events
+abbrev pub events_of : ℕ → List Change → List Event
+events_of scn changes = map (λ c. record { scn = scn; change = c }) changes
+
 -- the events of a window
 abbrev pub window_events : Span → List Event
-window_events w = map (λ c. record { scn = w.scn; change = c }) w.changes
+window_events w = events_of w.scn w.changes
 
 abbrev pub first_of : {A : Type 0} → List A → Option A
 first_of [] = None

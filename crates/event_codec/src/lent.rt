@@ -44,6 +44,13 @@ impl<'a> Run<'a> {
         self.bytes
     }
 
+    /// The same events once more.
+    pub fn again(&self) -> Run<'a>
+        ensures { result ≡ self.now }
+    {
+        Run { bytes: self.bytes }
+    }
+
     /// Takes the next event, with its own bytes. `None` comes exactly at the end.
     pub fn next(&mut self) -> Option<(EventView<'a>, &'a [u8])>
         ensures event { MatchOption result ((self.old ≡ []) × (self.new ≡ [])) (λ x. self.old ≡ event_of x.0 ∷ self.new) }
@@ -193,6 +200,13 @@ impl<'a> Windows<'a> {
         ensures { result.now ≡ windows_bytes self.now }
     {
         self.bytes
+    }
+
+    /// The same windows once more.
+    pub fn again(&self) -> Windows<'a>
+        ensures { result ≡ self.now }
+    {
+        Windows { bytes: self.bytes }
     }
 
     /// Takes the next window. It is read to its end. `None` comes exactly at the end.
