@@ -71,12 +71,14 @@ goes_on floor stream piece windows old new before after reads good takes =
     let size = length (windows_bytes (windows ++ others)) in
     let since = takes.since ∙ all.since in
     let waits : Waits from size new.rest new =
-    record { since = since; given = takes.count ∙ all.size; rest = refl; behind = subst (λ (q : Since). Behind q new.rest Unfinished) since takes.behind } in
-    (record {
-      others = others;
-      given = takes.gives.given;
-      reads = record { rest = new.rest; parts = all.parts; come = all.come; stops = subst (λ (b : Option ℕ). StopsAs b from size new.rest new) (sym takes.good) waits };
-    }, takes.good)
+    record { since = since; given = takes.count ∙ all.size; rest = refl; behind = subst (λ (q : Since). Behind q new.rest Unfinished) since takes.behind } in (
+      record {
+        others = others;
+        given = takes.gives.given;
+        reads = record { rest = new.rest; parts = all.parts; come = all.come; stops = subst (λ (b : Option ℕ). StopsAs b from size new.rest new) (sym takes.good) waits };
+      },
+      takes.good,
+    )
 
 -- the place of a head at fault, seen from another state of the same stream
 breaks_at : (from to : Since) (size whole : ℕ) (rest : List ℕ) (found : ℕ) → from ≡ to → size ≡ whole → Breaks from size rest found → Breaks to whole rest found
@@ -91,12 +93,14 @@ breaks floor stream piece windows old new found before after reads good finds =
     let from = after_windows (above floor) (windows ++ others) in
     let size = length (windows_bytes (windows ++ others)) in
     let here : Breaks (after_windows old.since others) (old.given + length (windows_bytes others)) rest found = record { behind = finds.behind; place = finds.place } in
-    let stops = breaks_at (after_windows old.since others) from (old.given + length (windows_bytes others)) size rest found all.since all.size here in
-    (record {
-      others = others;
-      given = finds.gives.given;
-      reads = record { rest = rest; parts = all.parts; come = all.come; stops = subst (λ (b : Option ℕ). StopsAs b from size rest new) (sym finds.bad) stops };
-    }, finds.bad)
+    let stops = breaks_at (after_windows old.since others) from (old.given + length (windows_bytes others)) size rest found all.since all.size here in (
+      record {
+        others = others;
+        given = finds.gives.given;
+        reads = record { rest = rest; parts = all.parts; come = all.come; stops = subst (λ (b : Option ℕ). StopsAs b from size rest new) (sym finds.bad) stops };
+      },
+      finds.bad,
+    )
 
 -- a stream that is bad stays so, whatever comes
 stays_bad : (floor : ℕ) (stream piece : List ℕ) (windows : List Span) (old : Split) (found : ℕ) → ReadsAs floor stream windows old → old.bad ≡ Some found → ReadsAs floor (stream ++ piece) windows old

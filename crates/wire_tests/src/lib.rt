@@ -5,11 +5,11 @@
 #[cfg(test)]
 mod buffer;
 #[cfg(test)]
+mod codec;
+#[cfg(test)]
 mod filter;
 #[cfg(test)]
 mod relay;
-#[cfg(test)]
-mod codec;
 #[cfg(test)]
 mod source;
 #[cfg(test)]

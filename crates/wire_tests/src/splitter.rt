@@ -46,6 +46,9 @@ fn a_bad_stream_answers_the_same_at_each_feed(rt: HostRuntime) -> Result<(), Fai
         return Err("a bad head".into());
     };
     let again = splitter.feed(rt.alloc(), &WINDOW_10, &mut whole);
-    assert_eq!(rt; (place, again, whole.len()), (0, Err(SplitFault::Bad { place: 0 }), 0));
+    assert_eq!(rt;
+        (place, again, whole.len()),
+        (0, Err(SplitFault::Bad { place: 0 }), 0)
+    );
     Ok(())
 }
