@@ -4,6 +4,8 @@
 set -euo pipefail
 cd "$(dirname "$0")/.."
 program=crates/stream_bench/out/stream_bench
+[ -x "$program" ] || { echo "build the program first: (cd crates/stream_bench && rt run)"; exit 1; }
+grep -m1 "model name" /proc/cpuinfo
 printf '%8s %8s %8s %14s %14s\n' windows piece bytes 'write ns/byte' 'split ns/byte'
 while read -r windows piece; do
     for _ in 1 2 3 4 5; do

@@ -15,6 +15,12 @@ PROGRAM = HERE.parent / "crates/databus/out/databus"
 RUNS = 5
 
 
+def processor():
+    with open("/proc/cpuinfo", encoding="utf-8") as info:
+        names = [line.split(":", 1)[1].strip() for line in info if line.startswith("model name")]
+    return f"{len(names)} x {names[0]}" if names else "an unknown processor"
+
+
 def seconds_of(script):
     script.seek(0)
     start = time.perf_counter()
@@ -24,6 +30,9 @@ def seconds_of(script):
 
 def main():
     generator, *sizes = sys.argv[1:]
+    if not PROGRAM.exists():
+        sys.exit("build the program first: (cd crates/databus && rt run -- trace < ../../examples/first.databus)")
+    print(processor())
     print(f"{'commits':>8} {'rows':>6} {'lines':>8} {'seconds':>9} {'us/commit':>10} {'lines/s':>10}")
     for size in sizes:
         count, _, rows = size.partition("/")

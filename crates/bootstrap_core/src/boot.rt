@@ -2,7 +2,7 @@ ghost use Rattle.std.specs.Prelude.{◌≡◌, ◌≤◌, List, Some, MatchOptio
 ghost use Rattle.bus_types.specs.Change.{Test};
 ghost use Rattle.bus_types.specs.Window.{Span};
 ghost use Rattle.event_codec.specs.Frames.{IsAnswer};
-ghost use Rattle.bus_wire.specs.Questions.{Question, Reply};
+ghost use Rattle.event_codec.specs.Questions.{Question, Reply};
 ghost use Rattle.bus_wire.specs.True.{boot_reply};
 ghost use Rattle.bus_stores.specs.Keeper.{SameStore, BothTold};
 ghost use Rattle.bus_stores.specs.Log.{LogState, IsLog};

@@ -5,3 +5,9 @@ use Rattle.std.specs.Prelude.{ℕ}
 pub record Counted (T : Type 0) : Type 0 where
   pub inner : T
   pub faults : ℕ
+
+-- a stream that is read and written, and how often its reads and its writes have failed
+pub record Streamed (T : Type 0) : Type 0 where
+  pub inner : T
+  pub read_faults : ℕ
+  pub write_faults : ℕ

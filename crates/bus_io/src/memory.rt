@@ -1,23 +1,23 @@
-ghost use Rattle.std.specs.Prelude.{◌≡◌, ◌+◌, ◌≤◌, ◌<◌, ◌↔◌, ◌&&◌, ◌||◌, ◌==◌, ◌++◌, Some, length, take, min, nat_lt, IsErr, IsTrue, IfOk, vec_len, vec_capacity};
+ghost use Rattle.std.specs.Prelude.{◌≡◌, ◌+◌, ◌≤◌, ◌<◌, ◌↔◌, ◌&&◌, ◌||◌, ◌==◌, ◌++◌, Some, length, take, min, nat_lt, IsErr, IsTrue, IfOk, IfSome, OnErr, vec_len, vec_capacity};
 ghost use Rattle.std.specs.Io.{ReadsAtMost, WritesAtMost};
 ghost use Rattle.std.specs.Io.KnownBytes.{ReadConsumes, WriteAppends};
 ghost use Rattle.bus_types.specs.Causes.{HasCause};
-ghost use Rattle.bus_io.specs.Bytes.{TakesSome};
-ghost use Rattle.bus_io.specs.Memory.{next_count, new_reader, new_writer, is_listed, is_refused, room_left, after_read, after_write};
+ghost use Rattle.bus_io.specs.Bytes.{TakesSome, ReadGives, RoomLeft};
+ghost use Rattle.bus_io.specs.Memory.{next_count, new_reader, new_writer, is_listed, is_refused, room_left, after_read, after_write, sure_room};
 
 use crate::sink::Sink;
 use crate::source::Source;
-use bus_types::{Failed, NoMemory};
+use bus_types::{Count, Failed, NoMemory};
 use std::alloc::Global;
 use std::marker::Model;
 
-/// The calls that are to fail, by their numbers from 0, and how many calls were made and have failed. Both counts
-/// stop at their type's end.
+/// The calls that are to fail, by their numbers from 0, and how many calls were made and have failed. The number of
+/// calls stops at its type's end.
 #[derive(Debug, Drop)]
 struct Plan {
     fails: Vec<u64>,
     calls: u64,
-    faults: u64,
+    faults: Count,
 }
 
 impl Plan {
@@ -29,7 +29,7 @@ impl Plan {
         Ok(Plan {
             fails: Vec::from_slice(alloc, fails)?,
             calls: 0,
-            faults: 0,
+            faults: Count::zero(),
         })
     }
 
@@ -47,11 +47,11 @@ impl Plan {
 
     /// Counts a fault.
     fn fail(&mut self) -> Failed
-        ensures faults { self.new.faults ≡ next_count self.old.faults }
+        ensures faults { self.new.faults ≡ self.old.faults + 1 }
         ensures calls { self.new.calls ≡ self.old.calls }
         ensures fails { self.new.fails.items ≡ self.old.fails.items }
     {
-        self.faults = self.faults.saturating_add(1);
+        self.faults.raise();
         Failed
     }
 }
@@ -65,12 +65,13 @@ pub struct MemorySource {
 }
 
 impl Model for MemorySource {
-    ghost use Rattle.std.specs.Prelude.{◌≤◌, drop, length};
+    ghost use Rattle.std.specs.Prelude.{◌≤◌, take, drop, length};
     ghost use Rattle.bus_io.specs.Memory.{Reader};
 
     ghost Value = { Reader };
 
     ghost view = { λ s. record {
+      given = take s.given s.bytes.items;
       left = drop s.given s.bytes.items;
       fails = s.plan.fails.items;
       calls = s.plan.calls;
@@ -113,12 +114,19 @@ fn copy_front(from: &[u8], to: &mut [u8]) -> usize
 impl Source for MemorySource {
     ghost left = { λ s. Some s.left };
 
+    ghost given = { λ s. Some s.given };
+
     ghost faults = { λ s. s.faults };
+
+    ghost Beside = { Unit {0} };
+
+    ghost beside = { λ _. tt };
 
     /// Gives as many bytes as there are and `buf` has room for. `Failed` comes exactly at the listed calls.
     fn read(&mut self, buf: &mut [u8]) -> Result<usize, Failed>
         ensures bound { ReadsAtMost result buf.new }
         ensures bytes { ReadConsumes (Some self.old.left) (Some self.new.left) result buf.new }
+        ensures given { ReadGives (Some self.old.given) (Some self.new.given) result buf.new }
         ensures cause { HasCause self.old.faults self.new.faults result }
         ensures exact { IsErr result ↔ IsTrue (is_listed self.old.fails self.old.calls) }
         ensures count { IfOk result (λ n. n ≡ min (length buf.old) (length self.old.left)) }
@@ -187,7 +195,7 @@ fn is_refused(listed: bool, left: usize, bytes: &[u8]) -> bool
 }
 
 /// Appends bytes for which there is room.
-fn append(to: &mut Vec<u8>, bytes: &[u8])
+pub(crate) fn append(to: &mut Vec<u8>, bytes: &[u8])
     requires { vec_len to.old + length bytes.now ≤ vec_capacity to.old }
     ensures items { to.new.items ≡ to.old.items ++ bytes.now }
     ensures capacity { vec_capacity to.old ≤ vec_capacity to.new }
@@ -198,7 +206,13 @@ fn append(to: &mut Vec<u8>, bytes: &[u8])
 impl Sink for MemorySink {
     ghost written = { λ s. Some s.bytes };
 
+    ghost room = { sure_room };
+
     ghost faults = { λ s. s.faults };
+
+    ghost Beside = { Unit {0} };
+
+    ghost beside = { λ _. tt };
 
     /// Takes as many of the bytes as still fit. `Failed` comes exactly at the listed calls, and where there are
     /// bytes and no room is left.
@@ -206,6 +220,8 @@ impl Sink for MemorySink {
         ensures bound { WritesAtMost result bytes.now }
         ensures some { TakesSome result bytes.now }
         ensures bytes { WriteAppends (Some self.old.bytes) (Some self.new.bytes) result bytes.now }
+        ensures full { OnErr result (IfSome (sure_room self.old) (λ n. n < length bytes.now)) }
+        ensures room { IfOk result (λ count. RoomLeft (sure_room self.old) (sure_room self.new) count) }
         ensures cause { HasCause self.old.faults self.new.faults result }
         ensures exact { IsErr result ↔ IsTrue (is_refused self.old bytes.now) }
         ensures count { IfOk result (λ n. n ≡ min (length bytes.now) (room_left self.old)) }

@@ -1,8 +1,8 @@
-ghost use Rattle.std.specs.Prelude.{◌≡◌};
+ghost use Rattle.std.specs.Prelude.{◌≡◌, None};
 
 use crate::sink::Sink;
 use crate::source::Source;
-use bus_types::Failed;
+use bus_types::{Count, Failed};
 use std::io::{Read, Write};
 use std::marker::Model;
 
@@ -11,7 +11,7 @@ use std::marker::Model;
 #[derive(Drop)]
 pub struct Reading<R> {
     reader: R,
-    faults: u64,
+    faults: Count,
 }
 
 impl<R> Model for Reading<R> {
@@ -27,18 +27,27 @@ impl<R: Read> Reading<R> {
     pub fn new(reader: R) -> Reading<R>
         ensures { result ≡ record { inner = reader; faults = 0 } }
     {
-        Reading { reader, faults: 0 }
+        Reading {
+            reader,
+            faults: Count::zero(),
+        }
     }
 }
 
 impl<R: Read> Source for Reading<R> {
     ghost left = { λ r. R.remaining r.inner };
 
+    ghost given = { λ _. None };
+
     ghost faults = { λ r. r.faults };
+
+    ghost Beside = { Unit {0} };
+
+    ghost beside = { λ _. tt };
 
     fn read(&mut self, buf: &mut [u8]) -> Result<usize, Failed> {
         let Ok(count) = self.reader.read(buf) else {
-            self.faults = self.faults.saturating_add(1);
+            self.faults.raise();
             return Err(Failed);
         };
         Ok(count)
@@ -50,7 +59,7 @@ impl<R: Read> Source for Reading<R> {
 #[derive(Drop)]
 pub struct Writing<W> {
     writer: W,
-    faults: u64,
+    faults: Count,
 }
 
 impl<W> Model for Writing<W> {
@@ -66,21 +75,30 @@ impl<W: Write> Writing<W> {
     pub fn new(writer: W) -> Writing<W>
         ensures { result ≡ record { inner = writer; faults = 0 } }
     {
-        Writing { writer, faults: 0 }
+        Writing {
+            writer,
+            faults: Count::zero(),
+        }
     }
 }
 
 impl<W: Write> Sink for Writing<W> {
     ghost written = { λ w. W.contents w.inner };
 
+    ghost room = { λ _. None };
+
     ghost faults = { λ w. w.faults };
+
+    ghost Beside = { Unit {0} };
+
+    ghost beside = { λ _. tt };
 
     /// A writer that takes none of some bytes has failed.
     fn write(&mut self, bytes: &[u8]) -> Result<usize, Failed> {
         match self.writer.write(bytes) {
             Ok(count) if count > 0 || bytes.is_empty() => Ok(count),
             _ => {
-                self.faults = self.faults.saturating_add(1);
+                self.faults.raise();
                 Err(Failed)
             }
         }

@@ -1,7 +1,7 @@
 -- What a keeper keeps from call to call.
 use Rattle.std.proofs.Common.{◌≡◌, ℕ, ◌≤◌, true, Option, None, Some, IfSome, refl, sym, subst, ◌∙◌, arith, inl, inr}
 use Rattle.std.specs.Prelude.{Result, Ok, option_map, ◌⊎◌}
-use Rattle.bus_types.specs.Causes.{Rose}
+use Rattle.bus_types.specs.Causes.{WasCounted}
 use Rattle.bus_stores.specs.declared.keeper.StoreFault.{StoreFault}
 use Rattle.bus_stores.specs.declared.keeper.Stop.{Stop}
 use Rattle.bus_stores.specs.declared.keeper.Stop.TheVariants.{Before, After}
@@ -55,17 +55,17 @@ kept_more asked old now new result k r = record {
   faults = omega arith;
 }
 
-both_rose : (a b c : Option ℕ) → BothTold (λ m n. m ≤ n) a b → BothTold Rose b c → BothTold Rose a c
-both_rose None None None p q = tt
-both_rose None None (Some z) p q = absurd q
-both_rose None (Some y) c p q = absurd p
-both_rose (Some x) None c p q = absurd p
-both_rose (Some x) (Some y) None p q = absurd q
-both_rose (Some x) (Some y) (Some z) p q = omega arith
+both_counted : (a b c : Option ℕ) → BothTold (λ m n. m ≤ n) a b → BothTold WasCounted b c → BothTold WasCounted a c
+both_counted None None None p q = tt
+both_counted None None (Some z) p q = absurd q
+both_counted None (Some y) c p q = absurd p
+both_counted (Some x) None c p q = absurd p
+both_counted (Some x) (Some y) None p q = absurd q
+both_counted (Some x) (Some y) (Some z) p q = omega arith
 
 -- a call that is counted, behind others
-pub counted_on : (old now new : KeeperState) → Kept old now → BothTold Rose now.calls new.calls → BothTold Rose old.calls new.calls
-counted_on old now new k rose = both_rose old.calls now.calls new.calls k.calls rose
+pub counted_on : (old now new : KeeperState) → Kept old now → BothTold WasCounted now.calls new.calls → BothTold WasCounted old.calls new.calls
+counted_on old now new k counted = both_counted old.calls now.calls new.calls k.calls counted
 
 -- what several reads answer together
 pub kept_ok : {Y : Type 0} (whole : Content → Y) (old now : KeeperState) (y : Y) → Kept old now → IfSome now.content (λ c. y ≡ whole c) → Reads whole old now (Ok y)

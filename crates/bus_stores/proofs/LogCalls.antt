@@ -4,10 +4,8 @@ use Rattle.bus_types.specs.Window.{Span}
 use Rattle.bus_types.proofs.Stretches.{end_from-append}
 use Rattle.bus_stores.specs.declared.log.LogFault.{LogFault}
 use Rattle.bus_stores.specs.declared.log.LogFault.TheVariants.{Failed, Full, NoMemory}
-use Rattle.bus_stores.specs.declared.keeper.Stop.{Stop}
-use Rattle.bus_stores.specs.declared.keeper.Stop.TheVariants.{Before, After}
 use Rattle.bus_stores.specs.Log.{SameLog, AppendsWindow}
-use Rattle.bus_stores.specs.MemoryLog.{MemoryWindows, log_of, log_stop, log_begun, Pushes, PushesAndFails, AppendStands, LogFailsAt}
+use Rattle.bus_stores.specs.MemoryLog.{MemoryWindows, log_of, log_begun, Pushes, AppendStands}
 
 -- nothing was changed
 unchanged : (old new : MemoryWindows) → new ≡ old → SameLog (log_of old) (log_of new)

@@ -1,5 +1,5 @@
 -- The steps of a keeper in memory.
-use Rattle.std.proofs.Common.{◌≡◌, ℕ, ◌-◌, ◌≤◌, true, false, List, [], ◌∷◌, ◌++◌, length, Option, Some, None, option_map, true≢false, refl, sym, ap, subst, ◌∙◌, inl, inr, arith}
+use Rattle.std.proofs.Common.{◌≡◌, ℕ, ◌+◌, ◌-◌, ◌≤◌, true, false, List, [], ◌∷◌, ◌++◌, length, Option, Some, None, option_map, true≢false, refl, sym, ap, subst, ◌∙◌, inl, inr, arith}
 use Rattle.std.proofs.lemmas.List.{length_push, get_or_push}
 use Rattle.std.proofs.lemmas.Option.{slice_get-get_or}
 use Rattle.std.specs.Prelude.{Ok, Err}
@@ -9,7 +9,7 @@ use Rattle.bus_stores.specs.declared.keeper.StoreFault.{StoreFault}
 use Rattle.bus_stores.specs.declared.keeper.StoreFault.TheVariants.{Failed, NoMemory}
 use Rattle.bus_stores.specs.declared.plan.Fail.{Fail}
 use Rattle.bus_stores.specs.Keeper.{Move, Counts, Reads, Commits, moved, rows_moved}
-use Rattle.bus_stores.specs.Memory.{MemoryStore, told_by, last_mark, no_fails, next_count, listed_stop, first_stop, commit_stop, begun, failed, stopped, stopped_at, stored, CommitLeaves}
+use Rattle.bus_stores.specs.Memory.{MemoryStore, told_by, last_mark, no_fails, listed_stop, first_stop, commit_stop, begun, failed, stopped, stopped_at, stored, CommitLeaves}
 
 abbrev calls_of : MemoryStore → ℕ
 calls_of s = s.calls
@@ -24,7 +24,7 @@ calls_kept : (s t u : MemoryStore) → s.calls ≤ t.calls → u.calls ≡ t.cal
 calls_kept s t u h e = omega arith
 
 -- a call that fails counts a fault
-fails_counted : {X : Type 0} (s t u : MemoryStore) → t.faults ≡ s.faults → s.calls ≤ t.calls → u.calls ≡ t.calls → t.faults ≤ u.faults → u.faults ≡ next_count t.faults → Counts {X = X} (told_by s) (told_by u) (Err Failed)
+fails_counted : {X : Type 0} (s t u : MemoryStore) → t.faults ≡ s.faults → s.calls ≤ t.calls → u.calls ≡ t.calls → t.faults ≤ u.faults → u.faults ≡ t.faults + 1 → Counts {X = X} (told_by s) (told_by u) (Err Failed)
 fails_counted s t u same later e more f = record { calls = calls_kept s t u later e; faults = omega arith; failed = omega arith }
 
 -- ---- reads

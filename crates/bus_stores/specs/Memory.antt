@@ -40,7 +40,7 @@ told_by s = record {
 
 -- ---- what a call does
 
--- a count that stops at its type's end
+-- a number of calls, which stops at its type's end
 abbrev pub next_count : ℕ → ℕ
 next_count n = min (n + 1) (2 ^ 64 - 1)
 
@@ -92,11 +92,11 @@ begun s = record s { calls = next_count s.calls }
 
 -- a call that reads fails
 abbrev pub failed : MemoryStore → MemoryStore
-failed s = record s { faults = next_count s.faults }
+failed s = record s { faults = s.faults + 1 }
 
 -- a commit fails
 abbrev pub stopped : MemoryStore → MemoryStore
-stopped s = record s { armed = None; faults = next_count s.faults }
+stopped s = record s { armed = None; faults = s.faults + 1 }
 
 -- a commit counts
 abbrev pub stored : Move → MemoryStore → MemoryStore

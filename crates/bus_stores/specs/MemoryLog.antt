@@ -74,7 +74,7 @@ log_begun s = record s { calls = next_count s.calls }
 
 -- a call fails
 abbrev pub log_failed : MemoryWindows → MemoryWindows
-log_failed s = record s { faults = next_count s.faults }
+log_failed s = record s { faults = s.faults + 1 }
 
 -- a window stands behind the others
 abbrev pub with_window : Span → MemoryWindows → MemoryWindows

@@ -1,5 +1,5 @@
 ghost use Rattle.std.specs.Prelude.{◌<◌, IfOk, OnOk, IfSome};
-ghost use Rattle.bus_types.specs.Causes.{Rose};
+ghost use Rattle.bus_types.specs.Causes.{WasCounted};
 ghost use Rattle.bus_types.specs.Rows.{page_of, IsPage};
 ghost use Rattle.bus_stores.specs.Keeper.{KeeperState, Reads, Commits, BothTold, IsTable, move_of, payload_of};
 
@@ -67,7 +67,7 @@ pub trait Keeper {
         ensures read { Reads (λ c. page_of cursor.now max c.rows) (state self.old) (state self.new) result }
         ensures ordered { OnOk result (IfSome (state self.new).content (λ c. IsTable c.rows)) }
         ensures page { IfOk result (λ rows. IsPage cursor.now max rows) }
-        ensures counted { OnOk result (BothTold Rose (state self.old).calls (state self.new).calls) };
+        ensures counted { OnOk result (BothTold WasCounted (state self.old).calls (state self.new).calls) };
 
     /// The payload of a row, where there is one.
     fn row(&mut self, alloc: Global, source: u16, key: &Key) -> Result<Option<Payload>, StoreFault>

@@ -1,5 +1,5 @@
 ghost use Rattle.std.specs.Prelude.{◌≡◌, ◌≤◌, Some, IfOk, OnOk, OnErr, IfSome};
-ghost use Rattle.bus_types.specs.Causes.{Rose};
+ghost use Rattle.bus_types.specs.Causes.{WasCounted};
 ghost use Rattle.bus_types.specs.Rows.{page_of, IsPage};
 ghost use Rattle.bus_stores.specs.Keeper.{Reads, Commits, BothTold, IsTable, new_content, move_of, payload_of};
 ghost use Rattle.bus_stores.specs.Memory.{new_store, told_by, last_mark, stop_at, listed_stop, read_stop, commit_stop, FailsAt, CountsCall, CommitLeaves, ReadLeaves, begun, failed, stopped, stored};
@@ -199,7 +199,7 @@ impl Keeper for MemoryKeeper {
         ensures read { Reads (λ c. page_of cursor.now max c.rows) (told_by self.old) (told_by self.new) result }
         ensures ordered { OnOk result (IfSome (told_by self.new).content (λ c. IsTable c.rows)) }
         ensures page { IfOk result (λ rows. IsPage cursor.now max rows) }
-        ensures counted { OnOk result (BothTold Rose (told_by self.old).calls (told_by self.new).calls) }
+        ensures counted { OnOk result (BothTold WasCounted (told_by self.old).calls (told_by self.new).calls) }
         ensures exact { FailsAt (read_stop self.old) result }
         ensures exact_state { ReadLeaves self.old self.new result }
         ensures numbered { CountsCall self.old self.new }

@@ -1,7 +1,7 @@
 ghost use Rattle.std.specs.Prelude.{◌≡◌, ◌<◌, ◌^◌, ◌++◌, map, length, IfOk, OnOk, IfSome};
 ghost use Rattle.bus_types.specs.Rows.{pair_of, last_from, RiseAfter};
 ghost use Rattle.bus_types.specs.declared.row.Cursor.TheVariants.{Start};
-ghost use Rattle.bus_types.specs.Causes.{Rose};
+ghost use Rattle.bus_types.specs.Causes.{WasCounted};
 ghost use Rattle.bus_stores.specs.Keeper.{Reads, BothTold, IsTable};
 
 use crate::keeper::{Keeper, StoreFault};
@@ -16,7 +16,7 @@ pub fn all_rows<K: Keeper>(alloc: Global, keeper: &mut K) -> Result<Rows, StoreF
     ensures read { Reads (λ c. c.rows) (K.state keeper.old) (K.state keeper.new) result }
     ensures ordered { OnOk result (IfSome (K.state keeper.new).content (λ c. IsTable c.rows)) }
     ensures rising { IfOk result (λ rows. RiseAfter Start rows) }
-    ensures counted { OnOk result (BothTold Rose (K.state keeper.old).calls (K.state keeper.new).calls) }
+    ensures counted { OnOk result (BothTold WasCounted (K.state keeper.old).calls (K.state keeper.new).calls) }
 {
     let mut all = Vec::new(alloc);
     'pages: loop {

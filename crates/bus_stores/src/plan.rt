@@ -1,9 +1,9 @@
-ghost use Rattle.std.specs.Prelude.{◌≡◌, ◌≤◌, IfOk};
+ghost use Rattle.std.specs.Prelude.{◌≡◌, ◌+◌, ◌≤◌, IfOk};
 ghost use Rattle.bus_stores.specs.Memory.{next_count, stop_at, listed_stop};
 
 use crate::keeper::{Stop, StoreFault};
 use crate::log::LogFault;
-use bus_types::NoMemory;
+use bus_types::{Count, NoMemory};
 use std::alloc::Global;
 
 /// A call that is to fail.
@@ -15,14 +15,14 @@ pub struct Fail {
     pub after: bool,
 }
 
-/// Which calls are to fail, the stop that the next commit meets, and how many calls were made and have failed. Both
-/// counts stop at their type's end.
+/// Which calls are to fail, the stop that the next commit meets, and how many calls were made and have failed. The
+/// number of calls stops at its type's end.
 #[derive(Debug, Drop)]
 pub(crate) struct Plan {
     pub fails: Vec<Fail>,
     pub armed: Option<Stop>,
     pub calls: u64,
-    pub faults: u64,
+    pub faults: Count,
 }
 
 impl Plan {
@@ -37,7 +37,7 @@ impl Plan {
             fails: Vec::from_slice(alloc, fails)?,
             armed: None,
             calls: 0,
-            faults: 0,
+            faults: Count::zero(),
         })
     }
 
@@ -54,16 +54,16 @@ impl Plan {
 
     // Counts a fault.
     fn count_fault(&mut self)
-        ensures counted { self.new ≡ record self.old { faults = next_count self.old.faults } }
+        ensures counted { self.new ≡ record self.old { faults = self.old.faults + 1 } }
         ensures later { self.old.faults ≤ self.new.faults }
     {
-        self.faults = self.faults.saturating_add(1);
+        self.faults.raise();
     }
 
     /// Counts a fault of a log.
     pub fn log_fault(&mut self) -> LogFault
         ensures fault { result ≡ LogFault.Failed }
-        ensures counted { self.new ≡ record self.old { faults = next_count self.old.faults } }
+        ensures counted { self.new ≡ record self.old { faults = self.old.faults + 1 } }
         ensures later { self.old.faults ≤ self.new.faults }
     {
         self.count_fault();
@@ -73,7 +73,7 @@ impl Plan {
     /// Counts a fault.
     pub fn fault(&mut self) -> StoreFault
         ensures fault { result ≡ StoreFault.Failed }
-        ensures counted { self.new ≡ record self.old { faults = next_count self.old.faults } }
+        ensures counted { self.new ≡ record self.old { faults = self.old.faults + 1 } }
         ensures later { self.old.faults ≤ self.new.faults }
     {
         self.count_fault();

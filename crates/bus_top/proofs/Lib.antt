@@ -1,3 +1,6 @@
 pub mod Streams
 pub mod Pieces
 pub mod Turns
+pub mod Placed
+pub mod Answering
+pub mod Promise

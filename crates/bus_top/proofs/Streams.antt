@@ -3,8 +3,7 @@ use Rattle.std.proofs.Common.{◌≡◌, ℕ, ◌+◌, ◌<◌, ◌≤◌, Bool,
 use Rattle.std.specs.Prelude.{nat_le, nat_lt, ◌||◌}
 use Rattle.std.specs.Io.{StartsWith}
 use Rattle.std.proofs.lemmas.Bool.{leb-false, ltb-false}
-use Rattle.std.proofs.lemmas.List.{take_at, take-append-drop}
-use Rattle.std.proofs.lemmas.Option.{same_Some}
+use Rattle.std.proofs.lemmas.List.{take_at}
 use Rattle.trace_script.specs.Input.{RawLine, IsPart, lines_of, most_lines, longest_line, longest_input, is_too_long}
 use Rattle.trace_script.proofs.LineLaws.{is_long_part, long_part}
 use Rattle.history_core.specs.Script.{State}
@@ -52,11 +51,11 @@ pub stops_long : (text : List ℕ) (s : State) (count used : ℕ) (raw : RawLine
 stops_long text s count used raw h ls = ap (before text) (long_line s count used raw ls h) ∙ before-ended text (TooLongAt (count + 1)) s
 
 -- a line outside the grammar or against its rules stops a run, and leaves the bus and the text as they were
-pub bad_stops : (text text' : List ℕ) (b b' : Parts) (count used : ℕ) (raw : RawLine) → IsSound b → is_too_long count used raw ≡ false → text_step (state_of b) raw.text ≡ None → b' ≡ b → Some text' ≡ Some text → IsSound b' × ((ls : List RawLine) → before text (played (state_of b) count used (raw ∷ ls)) ≡ record { text = text'; ending = BadAt (count + 1); state = state_of b' })
+pub bad_stops : (text text' : List ℕ) (b b' : Parts) (count used : ℕ) (raw : RawLine) → IsSound b → is_too_long count used raw ≡ false → text_step (state_of b) raw.text ≡ None → b' ≡ b → text' ≡ text → IsSound b' × ((ls : List RawLine) → before text (played (state_of b) count used (raw ∷ ls)) ≡ record { text = text'; ending = BadAt (count + 1); state = state_of b' })
 bad_stops text text' b b' count used raw sound h e same written = (
   subst IsSound (sym same) sound,
   λ ls. ap (before text) (bad_line (state_of b) count used raw ls h e) ∙ before-ended text (BadAt (count + 1)) (state_of b)
-      ∙ (λ i. record { text = sym (same_Some text' text written) i; ending = BadAt (count + 1); state = state_of (sym same i) }),
+      ∙ (λ i. record { text = sym written i; ending = BadAt (count + 1); state = state_of (sym same i) }),
 )
 
 pub goes_on : (text more printed : List ℕ) (s next : State) (count used : ℕ) (raw : RawLine) → more ≡ text ++ printed → is_too_long count used raw ≡ false → text_step s raw.text ≡ Some (next, printed) → (ls : List RawLine) → before more (played next (count + 1) (used + raw.size) ls) ≡ before text (played s count used (raw ∷ ls))
@@ -68,14 +67,6 @@ goes_on text more printed s next count used raw m h e ls =
 -- a text begins with itself, whatever stands behind it
 pub starts : (text more : List ℕ) → StartsWith (text ++ more) text
 starts text more = take_at text more (length text) refl
-
--- a good line of whose text a front was written
-pub breaks_line : (text more printed : List ℕ) (n : ℕ) (s next : State) (count used : ℕ) (raw : RawLine) → more ≡ text ++ take n printed → is_too_long count used raw ≡ false → text_step s raw.text ≡ Some (next, printed) → (ls : List RawLine) → StartsWith (before text (played s count used (raw ∷ ls))).text more
-breaks_line text more printed n s next count used raw m h e ls =
-    let rest : Played = played next (count + 1) (used + raw.size) ls in
-    let parts : text ++ (printed ++ rest.text) ≡ more ++ (drop n printed ++ rest.text) =
-    ap (λ (l : List ℕ). text ++ (l ++ rest.text)) (sym (take-append-drop n printed)) ∙ ap (λ (l : List ℕ). text ++ l) (append_assoc (take n printed) (drop n printed) rest.text) ∙ sym (append_assoc text (take n printed) (drop n printed ++ rest.text)) ∙ ap (λ (l : List ℕ). l ++ (drop n printed ++ rest.text)) (sym m) in
-    subst (λ (p : Played). StartsWith (before text p).text more) (sym (good_line s next count used raw printed ls h e)) (subst (λ (l : List ℕ). StartsWith l more) (sym parts) (starts more (drop n printed ++ rest.text)))
 
 none_holds : (a b c : Bool) → (a || b || c) ≡ false → (a ≡ false) × (b ≡ false) × (c ≡ false)
 none_holds true b c h = absurd cc

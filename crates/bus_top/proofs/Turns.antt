@@ -4,19 +4,19 @@ use Rattle.std.specs.Io.{StartsWith}
 use Rattle.std.specs.Io.KnownBytes.{Appends, Consumes, Keeps, IsAtEnd}
 use Rattle.std.proofs.KnownBytes.{Appends-nil, Appends-trans, Consumes-nil, Consumes-trans, Consumes-kept, starts_with_rest}
 use Rattle.std.proofs.lemmas.List.{take-append-drop, take_at, take_all}
-use Rattle.trace_script.specs.Input.{lines_of, whole_part}
+use Rattle.trace_script.specs.Input.{IsWhole, lines_of, whole_part}
 use Rattle.trace_script.proofs.LineLaws.{whole_part-append, IsWhole-append}
-use Rattle.history_core.specs.Script.{start}
+use Rattle.history_core.specs.Script.{State, start}
 use Rattle.history_core.specs.Run.{Played, Ending, before, played, script}
 use Rattle.history_core.specs.Run.Ending.{Finished, BadAt, TooLongAt}
 use Rattle.history_core.specs.Bus.{Parts, state_of, IsSound}
 use Rattle.bus_top.specs.declared.session.Session.{Session}
 use Rattle.bus_top.specs.declared.session.Stop.{Stop}
-use Rattle.bus_top.specs.declared.session.Stop.TheVariants.{BadLine, TooLong, NoMemory}
-use Rattle.bus_top.specs.Session.{run_bytes, IsSession, Takes, Finishes, Reached}
+use Rattle.bus_top.specs.declared.session.Stop.TheVariants.{BadLine, TooLong, WriteFault as NoWrite, NoMemory}
+use Rattle.bus_top.specs.Session.{run_bytes, IsSession, TookLines, Takes, Feeds, Finishes, Reached}
 use Rattle.bus_top.specs.declared.status.Status.{Status}
 use Rattle.bus_top.specs.declared.status.Status.TheVariants.{Done, Usage, ReadFault, WriteFault, BadLine as StatusBadLine, NoMemory as StatusNoMemory, TooLong as StatusTooLong}
-use Rattle.bus_top.specs.Trace.{EndsAt, StopsWriting, LeavesBus, EndedWith, Ends, EndsWith, BreaksOff, stop_status}
+use Rattle.bus_top.specs.Trace.{EndsAt, StopsWriting, StopsShort, LeavesBus, EndedWith, Ends, EndsWith, BreaksOff, stop_status}
 use Rattle.bus_top.proofs.Streams.{before-before, before-ended, no_line, starts}
 
 -- before the first read
@@ -41,7 +41,7 @@ pub with_piece : {input left output written : Option (List ℕ)} (s : Session) (
 with_piece s h come rest = h.same (come ++ rest)
 
 -- after a piece of which everything was taken
-pub reached_more : (u : Unit {0}) (input left1 left2 output written1 written2 : Option (List ℕ)) (s1 s2 : Session) (piece text2 : List ℕ) → Reached input left1 output written1 s1 → Consumes left1 left2 piece → Takes (Ok u) (s1.pending.items ++ piece) s1 [] s2 text2 → Appends written1 written2 text2 → Reached input left2 output written2 s2
+pub reached_more : (u : Unit {0}) (input left1 left2 output written1 written2 : Option (List ℕ)) (s1 s2 : Session) (piece text2 : List ℕ) → Reached input left1 output written1 s1 → Consumes left1 left2 piece → Takes (Ok u) (s1.pending.items ++ piece) s1 s2 text2 → Appends written1 written2 text2 → Reached input left2 output written2 s2
 reached_more u input left1 left2 output written1 written2 s1 s2 piece text2 h c t a =
     let parts : (h.whole ++ s1.pending.items) ++ piece ≡ (h.whole ++ t.whole) ++ s2.pending.items =
     append_assoc h.whole s1.pending.items piece ∙ ap (λ (l : List ℕ). h.whole ++ l) (t.parts ∙ ap (λ (l : List ℕ). t.whole ++ l) (append-nil s2.pending.items)) ∙ sym (append_assoc h.whole t.whole s2.pending.items) in
@@ -84,6 +84,15 @@ broken text text2 more part full n e f =
     ∙ ap (λ (l : List ℕ). (text ++ l) ++ behind) (sym e) in
     sym (ap (take (length (text ++ part))) whole-is ∙ take_at (text ++ part) behind (length (text ++ part)) refl)
 
+-- what was gathered went out behind what was sent
+pub sent_all : (written1 written2 written3 : Option (List ℕ)) (result : Result Unit Stop) (come : List ℕ) (s1 s2 : Session) (gathered : List ℕ) (f : Feeds result come s1 s2 written1 written2 gathered) → Appends written2 written3 gathered → Appends written1 written3 (f.sent ++ gathered)
+sent_all written1 written2 written3 result come s1 s2 gathered f a = Appends-trans written1 written2 written3 f.sent gathered f.wrote a
+
+-- or a front of it
+pub sent_part : (written1 written2 written3 : Option (List ℕ)) (result : Result Unit Stop) (come : List ℕ) (s1 s2 : Session) (gathered : List ℕ) (n : ℕ) (f : Feeds result come s1 s2 written1 written2 gathered) → Appends written2 written3 (take n gathered) → Appends written1 written3 (take (length (f.sent ++ take n gathered)) (f.sent ++ gathered))
+sent_part written1 written2 written3 result come s1 s2 gathered n f a =
+    subst (Appends written1 written3) (broken f.sent gathered [] (take n gathered) (f.sent ++ gathered) n refl (ap (λ (l : List ℕ). f.sent ++ l) (sym (append-nil gathered)))) (Appends-trans written1 written2 written3 f.sent (take n gathered) f.wrote a)
+
 -- a front of the text of a script that was written
 pub breaks_off : (bytes : List ℕ) (output written1 written2 : Option (List ℕ)) (text text2 part : List ℕ) (p : Played) (n : ℕ) → Appends output written1 text → Appends written1 written2 part → part ≡ take n text2 → script bytes ≡ before text p → StartsWith p.text text2 → (m : ℕ) × Appends output written2 (take m (script bytes).text)
 breaks_off bytes output written1 written2 text text2 part p n a b e s starts =
@@ -95,33 +104,63 @@ starts_itself : (text full : List ℕ) → full ≡ text → StartsWith full tex
 starts_itself text full e = subst (λ (l : List ℕ). take (length text) l ≡ text) (sym e) (take_all (length text) text (omega arith))
 
 -- the text that a piece printed begins what its run prints
-pub takes_start : (result : Result Unit Stop) (come : List ℕ) (s1 : Session) (s2 : Session) (text2 : List ℕ) → Takes result come s1 [] s2 text2 → (rest : List ℕ) → StartsWith (run_bytes s1.bus s1.place (come ++ rest)).text text2
+pub takes_start : (result : Result Unit Stop) (come : List ℕ) (s1 : Session) (s2 : Session) (text2 : List ℕ) → Takes result come s1 s2 text2 → (rest : List ℕ) → StartsWith (run_bytes s1.bus s1.place (come ++ rest)).text text2
 takes_start (Ok u) come s1 s2 text2 t rest =
     let regroup : come ++ rest ≡ t.whole ++ (s2.pending.items ++ rest) = ap (λ (l : List ℕ). l ++ rest) (t.parts ∙ ap (λ (l : List ℕ). t.whole ++ l) (append-nil s2.pending.items)) ∙ append_assoc t.whole s2.pending.items rest in
     let run-is : run_bytes s1.bus s1.place (come ++ rest) ≡ before text2 (run_bytes s2.bus s2.place (s2.pending.items ++ rest)) = ap (run_bytes s1.bus s1.place) regroup ∙ sym (t.same (s2.pending.items ++ rest)) in
     subst (λ (p : Played). StartsWith p.text text2) (sym run-is) (starts text2 _)
 takes_start (Err (BadLine n)) come s1 s2 text2 t rest = starts_itself text2 _ (ap (λ (p : Played). p.text) (t.1 rest))
 takes_start (Err (TooLong n)) come s1 s2 text2 t rest = starts_itself text2 _ (ap (λ (p : Played). p.text) (t.1 rest))
-takes_start (Err NoMemory) come s1 s2 text2 t rest = t rest
+takes_start (Err NoWrite) come s1 s2 text2 t rest = t rest
+takes_start (Err NoMemory) come s1 s2 text2 t rest =
+    let regroup : come ++ rest ≡ t.whole ++ (t.rest ++ rest) = ap (λ (l : List ℕ). l ++ rest) t.parts ∙ append_assoc t.whole t.rest rest in
+    let run-is : run_bytes s1.bus s1.place (come ++ rest) ≡ before text2 (played t.state t.count t.used (lines_of (t.rest ++ rest))) = ap (run_bytes s1.bus s1.place) regroup ∙ sym (t.same (t.rest ++ rest)) in
+    subst (λ (p : Played). StartsWith p.text text2) (sym run-is) (starts text2 _)
 
 -- a run that stopped writing the text of a piece
-pub stopped_writing : (input left1 left2 output written1 written2 : Option (List ℕ)) (result : Result Unit Stop) (s1 s2 : Session) (piece text2 : List ℕ) (n : ℕ) → Reached input left1 output written1 s1 → Consumes left1 left2 piece → Appends written1 written2 (take n text2) → Takes result (s1.pending.items ++ piece) s1 [] s2 text2 → StopsWriting input output written2
+pub stopped_writing : (input left1 left2 output written1 written2 : Option (List ℕ)) (result : Result Unit Stop) (s1 s2 : Session) (piece text2 : List ℕ) (n : ℕ) → Reached input left1 output written1 s1 → Consumes left1 left2 piece → Appends written1 written2 (take n text2) → Takes result (s1.pending.items ++ piece) s1 s2 text2 → StopsWriting input output written2
 stopped_writing None left1 left2 output written1 written2 result s1 s2 piece text2 n h c a t = tt
 stopped_writing (Some bytes) left1 left2 output written1 written2 result s1 s2 piece text2 n h c a t =
     let p = piece_script bytes left1 left2 output written1 s1 piece h c in
     breaks_off bytes output written1 written2 h.text text2 (take n text2) _ n h.wrote a refl p.1 (takes_start result (s1.pending.items ++ piece) s1 s2 text2 t p.0)
 
+-- a run that whole lines of a told input lead to, and no memory behind them
+short_at : (bytes front rest : List ℕ) (output written : Option (List ℕ)) (text : List ℕ) (s : State) → bytes ≡ front ++ rest → IsWhole front → script front ≡ record { text = text; ending = Finished; state = s } → Appends output written text → StopsShort (Some bytes) output written
+short_at bytes front rest output written text s e lines is a =
+    let whole-is : script (whole_part front) ≡ record { text = text; ending = Finished; state = s } =
+    ap script (ap whole_part (sym (append-nil front)) ∙ whole_part-append front [] lines tt) ∙ is in
+    (front, rest, e, ap (λ (p : Played). p.ending) whole-is, subst (Appends output written) (sym (ap (λ (p : Played). p.text) whole-is)) a)
+
+-- nothing was read
+pub short_none : (input output : Option (List ℕ)) → StopsShort input output output
+short_none None output = tt
+short_none (Some bytes) output = short_at bytes [] bytes output output [] start refl tt (no_line start 0 0) (Appends-nil output)
+
+-- a run that found no memory in a piece
+stopped_short : (input left1 left2 output written1 written2 : Option (List ℕ)) (s1 : Session) (piece text2 : List ℕ) → Reached input left1 output written1 s1 → Consumes left1 left2 piece → Appends written1 written2 text2 → TookLines (s1.pending.items ++ piece) s1 [] text2 → StopsShort input output written2
+stopped_short None left1 left2 output written1 written2 s1 piece text2 h c a t = tt
+stopped_short (Some bytes) left1 left2 output written1 written2 s1 piece text2 h c a t =
+    let all = whole_input bytes left2 ((h.whole ++ s1.pending.items) ++ piece) (Consumes-trans (Some bytes) left1 left2 (h.whole ++ s1.pending.items) piece h.read c) in
+    let parts : bytes ≡ (h.whole ++ t.whole) ++ (t.rest ++ all.0) =
+    all.1 ∙ ap (λ (l : List ℕ). l ++ all.0) (append_assoc h.whole s1.pending.items piece ∙ ap (λ (l : List ℕ). h.whole ++ l) t.parts ∙ sym (append_assoc h.whole t.whole t.rest)) ∙ append_assoc (h.whole ++ t.whole) t.rest all.0 in
+    let ran : run_bytes s1.bus s1.place t.whole ≡ record { text = text2; ending = Finished; state = t.state } =
+    ap (run_bytes s1.bus s1.place) (sym (append-nil t.whole)) ∙ sym (t.same []) ∙ ap (before text2) (no_line t.state t.count t.used) ∙ before-ended text2 Finished t.state in
+    short_at bytes (h.whole ++ t.whole) (t.rest ++ all.0) output written2 (h.text ++ text2) t.state parts (IsWhole-append h.whole t.whole h.lines t.lines)
+    (sym (h.same t.whole) ∙ ap (before h.text) ran) (Appends-trans output written1 written2 h.text text2 h.wrote a)
+
 -- a run that a piece stopped, whose text was written
-pub stopped : (stop : Stop) (input left1 left2 output written1 written2 : Option (List ℕ)) (s1 s2 : Session) (piece text2 : List ℕ) → Reached input left1 output written1 s1 → Consumes left1 left2 piece → Appends written1 written2 text2 → Takes (Err stop) (s1.pending.items ++ piece) s1 [] s2 text2 → EndedWith (stop_status stop) input left2 output written2 s2.bus
+pub stopped : (stop : Stop) (input left1 left2 output written1 written2 : Option (List ℕ)) (s1 s2 : Session) (piece text2 : List ℕ) → Reached input left1 output written1 s1 → Consumes left1 left2 piece → Appends written1 written2 text2 → Takes (Err stop) (s1.pending.items ++ piece) s1 s2 text2 → EndedWith (stop_status stop) input left2 output written2 s2.bus
 stopped (BadLine n) input left1 left2 output written1 written2 s1 s2 piece text2 h c a t =
     let e = stopped_at (BadAt n) input left1 left2 output written1 written2 s1 piece text2 s2.bus h c a t.0 t.1 in
     record { ended = e.0; back = e.1 }
 stopped (TooLong n) input left1 left2 output written1 written2 s1 s2 piece text2 h c a t =
     let e = stopped_at (TooLongAt n) input left1 left2 output written1 written2 s1 piece text2 s2.bus h c a t.0 t.1 in
     record { ended = e.0; back = e.1 }
-stopped NoMemory input left1 left2 output written1 written2 s1 s2 piece text2 h c a t =
+stopped NoWrite input left1 left2 output written1 written2 s1 s2 piece text2 h c a t =
     let wrote = subst (Appends written1 written2) (sym (take_all (length text2) text2 (omega arith))) a in
-    record { ended = stopped_writing input left1 left2 output written1 written2 (Err NoMemory) s1 s2 piece text2 (length text2) h c wrote t; back = refl }
+    record { ended = stopped_writing input left1 left2 output written1 written2 (Err NoWrite) s1 s2 piece text2 (length text2) h c wrote t; back = refl }
+stopped NoMemory input left1 left2 output written1 written2 s1 s2 piece text2 h c a t =
+    record { ended = stopped_short input left1 left2 output written1 written2 s1 piece text2 h c a t; back = refl }
 
 -- ---- the end of the input
 
@@ -132,7 +171,8 @@ finishes_start : (result : Result Unit Stop) (s : Session) (b : Parts) (text : L
 finishes_start (Ok u) s b text f = starts_itself text _ (ap (λ (p : Played). p.text) (finish_is s b text f))
 finishes_start (Err (BadLine n)) s b text f = starts_itself text _ (ap (λ (p : Played). p.text) (f.1 tt))
 finishes_start (Err (TooLong n)) s b text f = starts_itself text _ (ap (λ (p : Played). p.text) (f.1 tt))
-finishes_start (Err NoMemory) s b text f = f tt
+finishes_start (Err NoWrite) s b text f = absurd f
+finishes_start (Err NoMemory) s b text f = subst (StartsWith (run_bytes s.bus s.place s.pending.items).text) (sym f) refl
 
 -- the end broke off while it was written
 pub end_broken : (result : Result Unit Stop) (written written' : Option (List ℕ)) (s : Session) (b : Parts) (text : List ℕ) (n : ℕ) → Finishes result s [] b text → Appends written written' (take n text) → BreaksOff written written' s
@@ -156,7 +196,8 @@ end_done written written' s b text f a = end_with Finished written written' s b 
 pub end_stopped : (stop : Stop) (written written' : Option (List ℕ)) (s : Session) (b : Parts) (text : List ℕ) → Finishes (Err stop) s [] b text → Appends written written' text → Ends (stop_status stop) written written' s b
 end_stopped (BadLine n) written written' s b text f a = end_with (BadAt n) written written' s b text f.0 (f.1 tt) a
 end_stopped (TooLong n) written written' s b text f a = end_with (TooLongAt n) written written' s b text f.0 (f.1 tt) a
-end_stopped NoMemory written written' s b text f a = end_broken (Err NoMemory) written written' s b text (length text) f (subst (Appends written written') (sym (take_all (length text) text (omega arith))) a)
+end_stopped NoWrite written written' s b text f a = absurd f
+end_stopped NoMemory written written' s b text f a = subst (Appends written written') f a
 
 -- the script in a told input of which everything was read
 pub end_script : (bytes : List ℕ) (left1 left2 output written1 : Option (List ℕ)) (s1 : Session) → (h : Reached (Some bytes) left1 output written1 s1) → Consumes left1 left2 [] → IsAtEnd left2 → script bytes ≡ before h.text (run_bytes s1.bus s1.place s1.pending.items)
@@ -179,6 +220,20 @@ end_breaks (Some bytes) left1 left2 output written1 written2 s1 h c e w =
     let run : Played = run_bytes s1.bus s1.place s1.pending.items in
     breaks_off bytes output written1 written2 h.text run.text (take w.0 run.text) run w.0 h.wrote w.1 refl (end_script bytes left1 left2 output written1 s1 h c e) (starts_itself run.text run.text refl)
 
+-- the last line found no memory
+end_short : (input left1 left2 output written1 written2 : Option (List ℕ)) (s1 : Session) → Reached input left1 output written1 s1 → Consumes left1 left2 [] → Appends written1 written2 [] → StopsShort input output written2
+end_short input left1 left2 output written1 written2 s1 h c a =
+    stopped_short input left1 left2 output written1 written2 s1 [] [] h c a (record {
+      whole = [];
+      rest = s1.pending.items ++ [];
+      parts = refl;
+      lines = tt;
+      state = state_of s1.bus;
+      count = s1.place.count;
+      used = s1.place.used;
+      same = λ more. refl;
+    })
+
 -- what the end of the input says of the whole script
 pub ended_by : (status : Status) (input left1 left2 output written1 written2 : Option (List ℕ)) (s1 : Session) (b : Parts) → Reached input left1 output written1 s1 → Consumes left1 left2 [] → IsAtEnd left2 → Ends status written1 written2 s1 b → EndedWith status input left2 output written2 b
 ended_by Done input left1 left2 output written1 written2 s1 b h c e w =
@@ -190,7 +245,7 @@ ended_by (StatusBadLine line) input left1 left2 output written1 written2 s1 b h 
     record { ended = all.0; back = all.1 }
 ended_by ReadFault input left1 left2 output written1 written2 s1 b h c e w = absurd w
 ended_by WriteFault input left1 left2 output written1 written2 s1 b h c e w = record { ended = end_breaks input left1 left2 output written1 written2 s1 h c e w; back = refl }
-ended_by StatusNoMemory input left1 left2 output written1 written2 s1 b h c e w = record { ended = end_breaks input left1 left2 output written1 written2 s1 h c e w; back = refl }
+ended_by StatusNoMemory input left1 left2 output written1 written2 s1 b h c e w = record { ended = end_short input left1 left2 output written1 written2 s1 h c w; back = refl }
 ended_by (StatusTooLong line) input left1 left2 output written1 written2 s1 b h c e w =
     let all = end_at (TooLongAt line) input left1 left2 output written1 written2 s1 b h c e w in
     record { ended = all.0; back = all.1 }

@@ -1,3 +1,4 @@
 pub mod Session
 pub mod Trace
+pub mod Headline
 pub mod Status

@@ -1,5 +1,5 @@
 -- What a run of the program has read and written, and the bus that it leaves, by its status.
-use Rattle.std.specs.Prelude.{◌≡◌, ℕ, List, [], ◌∷◌, map, take, codes, Option, Some, None, IfSome, String, string_bytes}
+use Rattle.std.specs.Prelude.{◌≡◌, ℕ, List, [], ◌∷◌, ◌++◌, map, take, codes, Option, Some, None, IfSome, String, string_bytes}
 use Rattle.std.specs.Global.{Global}
 use Rattle.std.specs.Io.KnownBytes.{Appends, Consumes, IsAtEnd}
 use Rattle.trace_script.specs.Input.{whole_part}
@@ -28,6 +28,11 @@ StopsReading input left written written' =
 abbrev pub StopsWriting : Option (List ℕ) → Option (List ℕ) → Option (List ℕ) → Type 0
 StopsWriting input written written' = IfSome input (λ bytes. (n : ℕ) × Appends written written' (take n (script bytes).text))
 
+-- where the input is told: what was written is the text of the whole lines in a front of it, none of which is at fault
+abbrev pub StopsShort : Option (List ℕ) → Option (List ℕ) → Option (List ℕ) → Type 0
+StopsShort input written written' =
+    IfSome input (λ bytes. (front : List ℕ) × (rest : List ℕ) × (bytes ≡ front ++ rest) × ((script (whole_part front)).ending ≡ Finished) × Appends written written' (script (whole_part front)).text)
+
 -- the one word `trace`
 abbrev pub IsTrace : List (String Global) → Type 0
 IsTrace words = map string_bytes words ≡ codes "trace" ∷ []
@@ -39,7 +44,7 @@ Ended Usage input left output written = ⊥
 Ended (BadLine line) input left output written = EndsAt (BadAt line) input output written
 Ended ReadFault input left output written = StopsReading input left output written
 Ended WriteFault input left output written = StopsWriting input output written
-Ended NoMemory input left output written = StopsWriting input output written
+Ended NoMemory input left output written = StopsShort input output written
 Ended (TooLong line) input left output written = EndsAt (TooLongAt line) input output written
 
 -- ---- the bus that a run leaves
@@ -104,6 +109,7 @@ BreaksOff written written' s = (n : ℕ) × Appends written written' (take n (ru
 abbrev pub stop_status : Stop → Status
 stop_status (Stopping.BadLine line) = BadLine line
 stop_status (Stopping.TooLong line) = TooLong line
+stop_status Stopping.WriteFault = WriteFault
 stop_status Stopping.NoMemory = NoMemory
 
 -- what the end of a run writes, from a session of which everything has come, and the bus that it leaves
@@ -113,5 +119,5 @@ Ends Usage written written' s b = ⊥
 Ends (BadLine line) written written' s b = EndsWith (BadAt line) written written' s b
 Ends ReadFault written written' s b = ⊥
 Ends WriteFault written written' s b = BreaksOff written written' s
-Ends NoMemory written written' s b = BreaksOff written written' s
+Ends NoMemory written written' s b = Appends written written' []
 Ends (TooLong line) written written' s b = EndsWith (TooLongAt line) written written' s b

@@ -3,7 +3,8 @@ ghost use Rattle.std.specs.Io.KnownBytes.{IsAtEnd};
 ghost use Rattle.bus_types.specs.Causes.{Rose};
 ghost use Rattle.history_core.specs.Run.Ending.{Finished, BadAt, TooLongAt};
 ghost use Rattle.bus_top.specs.Session.{IsSession, Reached};
-ghost use Rattle.bus_top.specs.Trace.{EndsAt, StopsReading, StopsWriting, HandsBack, IsTrace, Ended, Ends, Turned, kept_by, stop_status};
+ghost use Rattle.bus_top.specs.Headline.{Headline};
+ghost use Rattle.bus_top.specs.Trace.{EndsAt, StopsReading, StopsWriting, StopsShort, HandsBack, IsTrace, Ended, Ends, Turned, kept_by, stop_status};
 
 use crate::session::{Session, Stop};
 use crate::status::Status;
@@ -47,7 +48,11 @@ pub fn trace<S: Source, W: Sink>(
     // What stands written after a fault or want of memory.
     ensures read_so_far { result ≡ Status.ReadFault → StopsReading (S.left input.old) (S.left input.new) (W.written out.old) (W.written out.new) }
     ensures written_so_far { result ≡ Status.WriteFault → StopsWriting (S.left input.old) (W.written out.old) (W.written out.new) }
-    ensures no_memory { result ≡ Status.NoMemory → StopsWriting (S.left input.old) (W.written out.old) (W.written out.new) }
+    ensures no_memory { result ≡ Status.NoMemory → StopsShort (S.left input.old) (W.written out.old) (W.written out.new) }
+
+    // Who is online holds exactly the filtered table; no stored SCN falls; and the relay answers not found exactly where a
+    // window after the SCN asked was evicted, else the next whole windows that fit, or why none do.
+    ensures headline { Headline (S.left input.old) kept.new }
 
     // The bus as the lines that were taken left it, or none.
     ensures kept { HandsBack result (S.left input.old) (S.left input.new) kept.new }
@@ -144,7 +149,7 @@ fn turn<S: Source, W: Sink>(
     if count == 0 {
         return Some(end(alloc, session, text, out));
     }
-    let fed = session.feed(alloc, &piece[..count], text);
+    let fed = session.feed(alloc, &piece[..count], text, out);
     let Ok(()) = write_all(out, text) else {
         return Some(Status::WriteFault);
     };
@@ -178,6 +183,7 @@ fn status_of(stop: Stop) -> Status
     match stop {
         Stop::BadLine(line) => Status::BadLine { line },
         Stop::TooLong(line) => Status::TooLong { line },
+        Stop::WriteFault => Status::WriteFault,
         Stop::NoMemory => Status::NoMemory,
     }
 }

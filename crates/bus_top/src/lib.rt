@@ -9,6 +9,3 @@ mod status;
 
 pub use call::trace;
 pub use status::Status;
-
-#[cfg(test)]
-mod tests;

@@ -1,17 +1,19 @@
-ghost use Rattle.std.specs.Prelude.{◌≡◌, ◌+◌, ◌≤◌, [], ◌∷◌, ◌++◌, length, Some, IfOk, IfSome, IfNone};
+ghost use Rattle.std.specs.Prelude.{◌≡◌, ◌+◌, ◌≤◌, [], ◌∷◌, ◌++◌, length, IfOk, IfErr, IfSome, IfNone, OnOk, OnErr, IsErrOf};
+ghost use Rattle.bus_types.specs.Causes.{Rose, HasCause};
 ghost use Rattle.trace_script.specs.Input.{IsPart};
 ghost use Rattle.history_core.specs.Script.{start};
-ghost use Rattle.history_core.specs.Run.{text_step};
-ghost use Rattle.history_core.specs.Bus.{state_of, IsSound, Steps};
-ghost use Rattle.bus_top.specs.Session.{IsSession, IsWithin, TakesLine, TakesEnd, Takes, Finishes, Holds, is_long};
+ghost use Rattle.history_core.specs.Run.{line_step, text_step};
+ghost use Rattle.history_core.specs.Bus.{state_of, IsSound};
+ghost use Rattle.trace_script.specs.declared.line.Line.{Line};
+ghost use Rattle.bus_top.specs.Session.{IsSession, IsWithin, TakesLine, TakesEnd, Feeds, Finishes, Holds, Prints, Sends, SendsFront, is_long};
 
-use bus_io::GrowingSink;
+use bus_io::{GrowingSink, Sink, write_all};
 use bus_types::NoMemory;
 use history_core::{Bus, StepFault};
 use memchr::memchr;
 use std::alloc::Global;
 use std::mem;
-use trace_script::{LineFault, read_line};
+use trace_script::{Line, LineFault, read_line};
 
 /// The most bytes of windows that the relay keeps where no line says it.
 const USUAL_BYTES: u64 = 16_777_216;
@@ -28,6 +30,9 @@ const LONGEST_LINE: u64 = 4_194_304;
 /// The most bytes of an input.
 const LONGEST_INPUT: u64 = 16_777_216;
 
+/// The most bytes of text that are gathered before they are written.
+const MOST_GATHERED: usize = 65_536;
+
 /// Why a script stopped.
 #[derive(Clone, Copy, Debug, PartialEq, Eq)]
 pub(crate) enum Stop {
@@ -35,6 +40,8 @@ pub(crate) enum Stop {
     BadLine(u64),
     /// The line of this number is too long.
     TooLong(u64),
+    /// The output failed.
+    WriteFault,
     /// Memory ran out.
     NoMemory,
 }
@@ -69,61 +76,61 @@ impl Session {
         })
     }
 
-    /// Takes the next piece of the input, and appends what its whole lines print.
-    pub fn feed(&mut self, alloc: Global, piece: &[u8], text: &mut Vec<u8>) -> Result<(), Stop>
-        requires { IsSession self.old }
-        ensures { Takes result (self.old.pending.items ++ piece.now) self.old text.old.items self.new text.new.items }
-    {
-        let mut out = GrowingSink::new(mem::replace(text, Vec::new(alloc)));
-        let fed = self.take_lines(alloc, piece, &mut out);
-        *text = out.into_bytes();
-        fed
-    }
-
-    // Takes the lines of a piece, and keeps what stands behind them.
-    fn take_lines(&mut self, alloc: Global, piece: &[u8], out: &mut GrowingSink) -> Result<(), Stop>
-        requires { IsSession self.old }
-        ensures { Takes result (self.old.pending.items ++ piece.now) self.old out.old.bytes self.new out.new.bytes }
+    /// Takes the next piece of the input. What its whole lines print is gathered in `text`, and written as soon as it is more
+    /// than 65,536 bytes. After `BadLine`, `TooLong` and want of memory `text` has the rest of what the lines before print.
+    pub fn feed<W: Sink>(
+        &mut self,
+        alloc: Global,
+        piece: &[u8],
+        text: &mut Vec<u8>,
+        out: &mut W,
+    ) -> Result<(), Stop>
+        requires session { IsSession self.old }
+        requires empty { text.old.items ≡ [] }
+        ensures feeds { Feeds result (self.old.pending.items ++ piece.now) self.old self.new (W.written out.old) (W.written out.new) text.new.items }
+        ensures later { W.faults out.old ≤ W.faults out.new }
+        ensures write_fault { IsErrOf result Stop.WriteFault → Rose (W.faults out.old) (W.faults out.new) }
     {
         let mut rest = piece;
         while let Some((line, after)) = first_line(rest) {
-            self.take_line(alloc, line, out)?;
+            self.take_line(alloc, line, text)?;
+            relieve(text, out)?;
             rest = after;
         }
         hold(&self.place, &mut self.pending, rest)
     }
 
     // Takes the line of which this is the end, before its LF.
-    fn take_line(&mut self, alloc: Global, end: &[u8], out: &mut GrowingSink) -> Result<(), Stop>
+    fn take_line(&mut self, alloc: Global, end: &[u8], text: &mut Vec<u8>) -> Result<(), Stop>
         requires session { IsSession self.old }
         requires part { IsPart end.now }
-        ensures { TakesEnd result (self.old.pending.items ++ end.now) self.old out.old.bytes self.new out.new.bytes }
+        ensures { TakesEnd result (self.old.pending.items ++ end.now) self.old text.old.items self.new text.new.items }
     {
         if self.pending.is_empty() {
-            self.take_whole(alloc, end, out)
+            self.take_whole(alloc, end, text)
         } else {
-            self.take_joined(alloc, end, out)
+            self.take_joined(alloc, end, text)
         }
     }
 
     // Takes a line that came in one piece.
-    fn take_whole(&mut self, alloc: Global, line: &[u8], out: &mut GrowingSink) -> Result<(), Stop>
+    fn take_whole(&mut self, alloc: Global, line: &[u8], text: &mut Vec<u8>) -> Result<(), Stop>
         requires session { IsSession self.old }
         requires empty { self.old.pending.items ≡ [] }
         requires part { IsPart line.now }
-        ensures { TakesEnd result line.now self.old out.old.bytes self.new out.new.bytes }
+        ensures { TakesEnd result line.now self.old text.old.items self.new text.new.items }
     {
-        step(&mut self.bus, &mut self.place, alloc, line, 1, out)
+        step(&mut self.bus, &mut self.place, alloc, line, 1, text)
     }
 
     // Takes a line that came in several pieces, of which this is the last.
-    fn take_joined(&mut self, alloc: Global, end: &[u8], out: &mut GrowingSink) -> Result<(), Stop>
+    fn take_joined(&mut self, alloc: Global, end: &[u8], text: &mut Vec<u8>) -> Result<(), Stop>
         requires session { IsSession self.old }
         requires part { IsPart end.now }
-        ensures { TakesEnd result (self.old.pending.items ++ end.now) self.old out.old.bytes self.new out.new.bytes }
+        ensures { TakesEnd result (self.old.pending.items ++ end.now) self.old text.old.items self.new text.new.items }
     {
         hold(&self.place, &mut self.pending, end)?;
-        step(&mut self.bus, &mut self.place, alloc, &self.pending, 1, out)?;
+        step(&mut self.bus, &mut self.place, alloc, &self.pending, 1, text)?;
         self.pending.clear();
         Ok(())
     }
@@ -133,21 +140,10 @@ impl Session {
         requires { IsSession self.old }
         ensures { Finishes result self.old text.old.items self.new.bus text.new.items }
     {
-        let mut out = GrowingSink::new(mem::replace(text, Vec::new(alloc)));
-        let done = self.take_last(alloc, &mut out);
-        *text = out.into_bytes();
-        done
-    }
-
-    // Takes what has come as a line without its LF, where anything has.
-    fn take_last(&mut self, alloc: Global, out: &mut GrowingSink) -> Result<(), Stop>
-        requires { IsSession self.old }
-        ensures { Finishes result self.old out.old.bytes self.new.bus out.new.bytes }
-    {
         if self.pending.is_empty() {
             return Ok(());
         }
-        step(&mut self.bus, &mut self.place, alloc, &self.pending, 0, out)
+        step(&mut self.bus, &mut self.place, alloc, &self.pending, 0, text)
     }
 }
 
@@ -199,39 +195,85 @@ fn step(
     alloc: Global,
     line: &[u8],
     end: u64,
-    out: &mut GrowingSink,
+    text: &mut Vec<u8>,
 ) -> Result<(), Stop>
     requires sound { IsSound bus.old }
     requires within { IsWithin place.old 0 }
     requires end { end ≤ 1 }
-    ensures { TakesLine result (record { text = line.now; size = length line.now + end }) bus.old place.old out.old.bytes bus.new place.new out.new.bytes }
+    ensures { TakesLine result (record { text = line.now; size = length line.now + end }) bus.old place.old text.old.items bus.new place.new text.new.items }
 {
     let size = line.len() as u64 + end;
     if is_too_long(place, line.len() as u64, size) {
         return Err(Stop::TooLong(place.count + 1));
     }
-    match take(bus, alloc, line, out) {
+    match take(bus, alloc, line, text) {
         Ok(()) => {
             place.count += 1;
             place.used += size;
             Ok(())
         }
         Err(StepFault::BadLine) => Err(Stop::BadLine(place.count + 1)),
-        // A sink in memory fails where there is none.
+        // What is gathered grows in memory: it fails where there is none.
         Err(StepFault::WriteFault { .. }) => Err(Stop::NoMemory),
         Err(StepFault::NoMemory) => Err(Stop::NoMemory),
     }
 }
 
-// What a text does as a line.
+// What a text does as a line. Where it is taken, its text is appended; else nothing is.
 #[tactic(auto, unfolding(history_core::specs::Run::text_step))]
-fn take(bus: &mut Bus, alloc: Global, text: &[u8], out: &mut GrowingSink) -> Result<(), StepFault>
+fn take(bus: &mut Bus, alloc: Global, line: &[u8], text: &mut Vec<u8>) -> Result<(), StepFault>
     requires { IsSound bus.old }
-    ensures { Steps result (text_step (state_of bus.old) text.now) bus.old bus.new (Some out.old.bytes) (Some out.new.bytes) }
+    ensures { Prints result (text_step (state_of bus.old) line.now) bus.old bus.new text.old.items text.new.items }
 {
-    match read_line(alloc, text) {
-        Ok(line) => bus.step(alloc, &line, out),
+    match read_line(alloc, line) {
+        Ok(line) => print(bus, alloc, &line, text),
         Err(LineFault::BadLine) => Err(StepFault::BadLine),
         Err(LineFault::NoMemory) => Err(StepFault::NoMemory),
+    }
+}
+
+// What a line does. Where it is taken, its text is appended; else nothing is.
+fn print(bus: &mut Bus, alloc: Global, line: &Line, text: &mut Vec<u8>) -> Result<(), StepFault>
+    requires { IsSound bus.old }
+    ensures { Prints result (line_step (state_of bus.old) line.now) bus.old bus.new text.old.items text.new.items }
+{
+    let before = text.len();
+    let mut out = GrowingSink::new(mem::replace(text, Vec::new(alloc)));
+    let took = bus.step(alloc, line, &mut out);
+    *text = out.into_bytes();
+    match took {
+        Ok(()) => Ok(()),
+        Err(fault) => {
+            text.truncate(before);
+            Err(fault)
+        }
+    }
+}
+
+// Writes what is gathered where it is more than is to be held.
+fn relieve<W: Sink>(text: &mut Vec<u8>, out: &mut W) -> Result<(), Stop>
+    ensures sends { OnOk result (Sends (W.written out.old) (W.written out.new) text.old.items text.new.items) }
+    ensures breaks { OnErr result ((text.new.items ≡ []) × SendsFront (W.written out.old) (W.written out.new) text.old.items) }
+    ensures fault { IfErr result (λ stop. stop ≡ Stop.WriteFault) }
+    ensures cause { HasCause (W.faults out.old) (W.faults out.new) result }
+{
+    if text.len() <= MOST_GATHERED {
+        return Ok(());
+    }
+    send(text, out)
+}
+
+// Writes what is gathered.
+fn send<W: Sink>(text: &mut Vec<u8>, out: &mut W) -> Result<(), Stop>
+    ensures sends { OnOk result (Sends (W.written out.old) (W.written out.new) text.old.items text.new.items) }
+    ensures breaks { OnErr result ((text.new.items ≡ []) × SendsFront (W.written out.old) (W.written out.new) text.old.items) }
+    ensures fault { IfErr result (λ stop. stop ≡ Stop.WriteFault) }
+    ensures cause { HasCause (W.faults out.old) (W.faults out.new) result }
+{
+    let sent = write_all(out, text);
+    text.clear();
+    match sent {
+        Ok(()) => Ok(()),
+        Err(_) => Err(Stop::WriteFault),
     }
 }

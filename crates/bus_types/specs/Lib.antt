@@ -1,4 +1,6 @@
 pub mod Causes
+pub mod Counting
+pub mod Fnv
 pub mod Change
 pub mod Window
 pub mod Timeline
@@ -8,3 +10,4 @@ pub mod Cut
 pub mod Relay
 pub mod Text
 pub mod Rows
+pub mod Latest

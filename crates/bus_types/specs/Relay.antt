@@ -50,6 +50,11 @@ pub record Room : Type 0 where
   pub bytes : ℕ
   pub windows : ℕ
 
+-- a relay has room for the largest window at least, and for 256 MiB and 65,536 windows at most
+pub record IsRoom (room : Room) : Type 0 where
+  pub bytes : (1048576 ≤ room.bytes) × (room.bytes ≤ 268435456)
+  pub windows : (1 ≤ room.windows) × (room.windows ≤ 65536)
+
 abbrev pub sizes : List Span → List ℕ
 sizes ws = map span_size ws
 

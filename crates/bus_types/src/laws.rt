@@ -1,9 +1,26 @@
-ghost use Rattle.std.specs.Prelude.{List, ℕ, ◌≡◌, ◌↔◌, ◌<◌, ◌≤◌, ◌++◌, ◌∷◌, [], length, take, true};
+ghost use Rattle.std.specs.Prelude.{List, ℕ, ◌≡◌, ◌↔◌, ◌<◌, ◌≤◌, ◌++◌, ◌∷◌, [], length, take, true, codes};
+ghost use Rattle.bus_types.specs.declared.limits.TheConstants.{MAX_SCN, MAX_PAYLOAD, MAX_CHANGES, MAX_WINDOW};
 ghost use Rattle.bus_types.specs.Change.{Test};
+ghost use Rattle.bus_types.specs.Fnv.{fnv1a_of};
 ghost use Rattle.bus_types.specs.Window.{Span};
 ghost use Rattle.bus_types.specs.Timeline.{Follows, IsTimeline, end_of, windows_between};
 ghost use Rattle.bus_types.specs.Table.{table, HoldsLastPuts};
 ghost use Rattle.bus_types.specs.Relay.{NotFound, stream, longest_run, IsLongestRun, Room, sizes, is_place, IsFloor, floor_of, evicted, Relay, new_relay, published, answer_of, StandsFor};
+
+/// A law of the limits: each has this value.
+pub fn the_limits_of_windows()
+    ensures scn { MAX_SCN ≡ 9223372036854775807 }
+    ensures payload { MAX_PAYLOAD ≡ 65536 }
+    ensures changes { MAX_CHANGES ≡ 4096 }
+    ensures window { MAX_WINDOW ≡ 1048576 }
+{}
+
+/// A law of the hash: of no bytes, of `a` and of `foobar` it is what its authors publish.
+pub fn hashes_of_short_texts()
+    ensures empty { fnv1a_of [] ≡ 0xcbf29ce484222325 }
+    ensures letter { fnv1a_of (codes "a") ≡ 0xaf63dc4c8601ec8c }
+    ensures word { fnv1a_of (codes "foobar") ≡ 0x85944171f73967e8 }
+{}
 
 /// A law of the table at an SCN: it is in strictly rising order of name, and a row is in it exactly where the
 /// row's last change up to that SCN is a put, with that put's payload.

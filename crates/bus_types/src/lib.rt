@@ -6,7 +6,9 @@
 mod accepts;
 mod change;
 mod changes;
+mod count;
 mod fault;
+mod fnv;
 mod laws;
 mod limits;
 mod payload;
@@ -18,10 +20,13 @@ mod window;
 pub use accepts::{Accepts, Everything};
 pub use change::{Change, Key, RowName};
 pub use changes::Changes;
+pub use count::Count;
 pub use fault::{Failed, NoMemory};
+pub use fnv::fnv1a;
 pub use laws::{
-    a_relay_stands_for_its_timeline, a_reply_is_the_longest_run, table_holds_last_puts,
-    the_floor_is_the_least_place_with_room, the_floor_is_where_windows_were_evicted,
+    a_relay_stands_for_its_timeline, a_reply_is_the_longest_run, hashes_of_short_texts,
+    table_holds_last_puts, the_floor_is_the_least_place_with_room,
+    the_floor_is_where_windows_were_evicted, the_limits_of_windows,
 };
 pub use limits::{MAX_CHANGES, MAX_PAYLOAD, MAX_SCN, MAX_WINDOW};
 pub use payload::{Payload, PayloadFault};
@@ -29,6 +34,3 @@ pub use row::{Cursor, MarkText, Row, Rows};
 pub use text::{cut_text, read_number};
 pub use timeline::{Timeline, Untold};
 pub use window::{Window, WindowFault, copy_changes};
-
-#[cfg(test)]
-mod tests;

@@ -18,7 +18,7 @@ use Rattle.event_codec.specs.Streams.{Comes, after_window, after_windows, window
 use Rattle.event_codec.proofs.Numbers.{IsBytes, IsBytes-drop}
 use Rattle.event_codec.proofs.Fronts.{event_taken, mark_taken}
 use Rattle.event_codec.proofs.Begun.{event, change_positive, changes_bytes-push, changes_size-append, changes_length, are_changes_push, open_count, open_size, open-push, right_scn}
-use Rattle.event_codec.proofs.Windows.{window_length}
+use Rattle.event_codec.proofs.WindowBytes.{window_length}
 use Rattle.event_codec.proofs.Streams.{come_append, after_append}
 use Rattle.bus_wire.specs.Lawful.{has_enough, IsAskedFor, after_floor, HoldsRun, can_stand, Reading, StopsAt}
 use Rattle.bus_wire.specs.Run.{Reached}

@@ -1,22 +1,19 @@
 -- What a relay and a bootstrap that follow a timeline reply.
-use Rattle.std.specs.Prelude.{◌≡◌, ℕ, ◌+◌, ◌-◌, ◌≤◌, Bool, true, false, if◌then◌else◌, ◌||◌, nat_lt, nat_le, List, [], ◌∷◌, length, filter, map, Option, Some}
-use Rattle.std.specs.BTreeMap.{insert_entry}
-use Rattle.bus_types.specs.declared.change.Change.{Change}
-use Rattle.bus_types.specs.declared.change.RowName.{RowName}
-use Rattle.bus_types.specs.declared.row.Cursor.{Cursor}
-use Rattle.bus_types.specs.Change.{Test, accepted, change_size, name_cmp, name_of}
+use Rattle.std.specs.Prelude.{◌≡◌, ℕ, ◌≤◌, true, false, if◌then◌else◌, ◌||◌, nat_lt, nat_le, List, [], ◌∷◌}
+use Rattle.bus_types.specs.Change.{Test}
 use Rattle.bus_types.specs.Window.{Span}
-use Rattle.bus_types.specs.Timeline.{windows_between, changes_between}
-use Rattle.bus_types.specs.Table.{RowList}
-use Rattle.bus_types.specs.Rows.{is_after, rest_of}
+use Rattle.bus_types.specs.Timeline.{windows_between}
+use Rattle.bus_types.specs.Rows.{rest_of}
+use Rattle.bus_types.specs.Latest.{last_changes, changes_after}
 use Rattle.bus_types.specs.View.{view}
 use Rattle.bus_types.specs.Cut.{cuts}
 use Rattle.bus_types.specs.Relay.{Served, is_place, fitting, stream}
 use Rattle.bus_types.specs.Relay.Served.{Windows as SomeWindows, NotFound as NoWindow, Empty as NothingNew, TooSmall as TooLarge}
 use Rattle.event_codec.specs.declared.answer.Answer.TheVariants.{NotFound, Empty, TooSmall, Behind, LogGone, StartDelta, StartSnapshot, Target as GoTo}
-use Rattle.bus_wire.specs.Questions.{Question, Reply}
-use Rattle.bus_wire.specs.Questions.Question.{Stream, Start, Scan, Target, Catchup, Delta}
-use Rattle.bus_wire.specs.Questions.Reply.{Windows, Rows, Changes, Only}
+use Rattle.event_codec.specs.Chunks.{chunk_of, puts_of}
+use Rattle.event_codec.specs.Questions.{Question, Reply}
+use Rattle.event_codec.specs.Questions.Question.{Stream, Start, Scan, Target, Catchup, Delta}
+use Rattle.event_codec.specs.Questions.Reply.{Windows, Rows, Changes, Only}
 
 -- what a relay serves, as a reply
 abbrev pub reply_of : Served → Reply
@@ -38,48 +35,6 @@ pub record IsBoot (ws : List Span) (b : Boot) : Type 0 where
   pub base_place : is_place b.base ws ≡ true
   pub applied_place : is_place b.applied ws ≡ true
   pub high_place : is_place b.high ws ≡ true
-
--- ---- chunks
-
--- the bytes of a closing frame
-abbrev pub frame_size : ℕ
-frame_size = 10
-
--- the longest run of items from the first on whose sizes sum to at most so many bytes
-abbrev pub items_within : ℕ → List Change → List Change
-items_within room [] = []
-items_within room (c ∷ cs) = if nat_le (change_size c) room then c ∷ items_within (room - change_size c) cs else []
-
--- a chunk of items in at most so many bytes with its frame, as a reply made of them and of whether an item is left; or the size
--- that the smallest reply needs
-abbrev pub chunk_of : (List Change → Bool → Reply) → ℕ → List Change → Reply
-chunk_of make most [] = if nat_lt most frame_size then Only (TooSmall frame_size) else make [] false
-chunk_of make most (c ∷ cs) =
-    if nat_lt most (change_size c + frame_size) then Only (TooSmall (change_size c + frame_size))
-    else (let run = items_within (most - frame_size) (c ∷ cs) in make run (nat_lt (length run) (length (c ∷ cs))))
-
--- rows as puts
-abbrev pub puts_of : RowList → List Change
-puts_of rows = map (λ r. record { source = r.0.source; key = r.0.key; put = Some r.1 }) rows
-
--- ---- what changed
-
--- of each row that changes, its name and what the last change puts, in order of name
-abbrev pub Latest : Type 0
-Latest = List (RowName × Option (List ℕ))
-
-abbrev pub latest_after : Latest → List Change → Latest
-latest_after entries [] = entries
-latest_after entries (c ∷ cs) = latest_after (insert_entry name_cmp entries (name_of c) c.put) cs
-
--- the last change of each accepted row that changes in the windows with low < SCN <= high, in order of name
-abbrev pub last_changes : List Span → Test → ℕ → ℕ → List Change
-last_changes ws test low high =
-    map (λ e. record { source = e.0.source; key = e.0.key; put = e.1 }) (latest_after [] (accepted test (changes_between low high ws)))
-
--- those after a cursor
-abbrev pub changes_after : Cursor → List Change → List Change
-changes_after cursor cs = filter (λ c. is_after cursor (name_of c)) cs
 
 -- ---- answers
 

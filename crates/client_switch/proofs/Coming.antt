@@ -21,10 +21,10 @@ use Rattle.bus_wire.specs.declared.ask.Ask.TheVariants.{Stream as StreamAsk, Sta
 use Rattle.bus_wire.specs.Lawful.{IsLawful, IsAnswerTo, IsAskedFor, HoldsRun, after_floor, stream_answers, start_answers}
 use Rattle.dispatcher.specs.Callbacks.{Callback, Describes, window_calls, answer_calls}
 use Rattle.dispatcher.specs.Telling.{AreAll}
-use Rattle.bus_wire.specs.Questions.{Reply}
+use Rattle.event_codec.specs.Questions.{Reply}
 use Rattle.client_switch.specs.Moves.{Wish, IsWished, question}
 use Rattle.client_switch.specs.Moves.Wish.{NoWish, StartWish, FreshWish}
-use Rattle.bus_wire.specs.Questions.Reply.{Windows, Only}
+use Rattle.event_codec.specs.Questions.Reply.{Windows, Only}
 use Rattle.client_switch.specs.Client.{IsAskOf, IsReply, AreTheWindows}
 use Rattle.client_switch.specs.Turning.{CanAnswer, CanFollow, CanCome}
 

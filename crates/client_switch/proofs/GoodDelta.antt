@@ -13,10 +13,12 @@ use Rattle.bus_types.proofs.TableLaws.{payload_after, payload_at-after, rows_aft
 use Rattle.event_codec.specs.declared.answer.Answer.TheVariants.{Behind, LogGone}
 use Rattle.checkpoint.specs.declared.mark.Mark.TheVariants.{Delta as Catching}
 use Rattle.checkpoint.specs.Mark.{IsMark}
-use Rattle.bus_wire.specs.Questions.{Delta, Reply, Changes, Only}
+use Rattle.event_codec.specs.Questions.{Delta, Reply, Changes, Only}
 use Rattle.client_switch.specs.Moves.{cursor_after}
 use Rattle.client_switch.specs.Good.{Good}
-use Rattle.bus_wire.specs.True.{last_changes, changes_after, chunk_of, IsBootedBy}
+use Rattle.bus_types.specs.Latest.{last_changes, changes_after}
+use Rattle.event_codec.specs.Chunks.{chunk_of}
+use Rattle.bus_wire.specs.True.{IsBootedBy}
 use Rattle.client_switch.proofs.Payloads.{changed_at, view_is}
 use Rattle.client_switch.proofs.Cursors.{RisesFrom, none_before, upto_front, behind_front}
 use Rattle.client_switch.proofs.Latest.{changes_rise, changes_give}

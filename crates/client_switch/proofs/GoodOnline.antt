@@ -15,7 +15,7 @@ use Rattle.bus_types.proofs.Runs.{view_replies}
 use Rattle.event_codec.specs.declared.answer.Answer.TheVariants.{NotFound}
 use Rattle.checkpoint.specs.declared.mark.Mark.TheVariants.{Online}
 use Rattle.checkpoint.specs.Mark.{IsMark}
-use Rattle.bus_wire.specs.Questions.{Reply, Windows, Only}
+use Rattle.event_codec.specs.Questions.{Reply, Windows, Only}
 use Rattle.client_switch.specs.Moves.{changes_of}
 use Rattle.client_switch.specs.Good.{Good}
 use Rattle.bus_wire.specs.True.{reply_of, IsServedBy}

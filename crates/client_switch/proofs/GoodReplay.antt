@@ -13,7 +13,7 @@ use Rattle.bus_types.proofs.TableLaws.{payload_after, payload_at-after, rows_aft
 use Rattle.event_codec.specs.declared.answer.Answer.TheVariants.{Behind, LogGone}
 use Rattle.checkpoint.specs.declared.mark.Mark.TheVariants.{Online, Catchup as Replaying}
 use Rattle.checkpoint.specs.Mark.{IsMark}
-use Rattle.bus_wire.specs.Questions.{Catchup, Reply, Windows, Only}
+use Rattle.event_codec.specs.Questions.{Catchup, Reply, Windows, Only}
 use Rattle.client_switch.specs.Moves.{changes_of}
 use Rattle.client_switch.specs.Good.{IsAsAt, IsAsWithin, changed, Good}
 use Rattle.bus_wire.specs.True.{replay_of, IsBootedBy}

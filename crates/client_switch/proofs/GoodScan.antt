@@ -15,10 +15,11 @@ use Rattle.bus_types.proofs.Stretches.{between_none}
 use Rattle.event_codec.specs.declared.answer.Answer.TheVariants.{Behind, LogGone, Target as GoTo}
 use Rattle.checkpoint.specs.declared.mark.Mark.TheVariants.{Online, Snapshot, Scanned, Catchup}
 use Rattle.checkpoint.specs.Mark.{IsMark}
-use Rattle.bus_wire.specs.Questions.{Scan, Target, Reply, Rows, Only}
+use Rattle.event_codec.specs.Questions.{Scan, Target, Reply, Rows, Only}
 use Rattle.client_switch.specs.Moves.{cursor_after, changes_of}
 use Rattle.client_switch.specs.Good.{Good}
-use Rattle.bus_wire.specs.True.{puts_of, chunk_of, IsBootedBy}
+use Rattle.event_codec.specs.Chunks.{puts_of, chunk_of}
+use Rattle.bus_wire.specs.True.{IsBootedBy}
 use Rattle.client_switch.proofs.Payloads.{view_has, view_lacks, view_is}
 use Rattle.client_switch.proofs.Cursors.{RisesFrom, none_before, upto_front, behind_front}
 use Rattle.client_switch.proofs.Latest.{puts_rise, puts_give}

@@ -9,7 +9,7 @@ use Rattle.event_codec.specs.declared.answer.Answer.TheVariants.{Behind, StartDe
 use Rattle.checkpoint.specs.declared.mark.Mark.{Mark}
 use Rattle.checkpoint.specs.declared.mark.Mark.TheVariants.{Online, Delta, Snapshot, Scanned, Catchup}
 use Rattle.checkpoint.specs.Mark.{IsMark, floor_of}
-use Rattle.bus_wire.specs.Questions.{Start, Reply, Only}
+use Rattle.event_codec.specs.Questions.{Start, Reply, Only}
 use Rattle.client_switch.specs.Good.{Good, greatest}
 use Rattle.bus_wire.specs.True.{IsBootedBy}
 use Rattle.client_switch.proofs.Payloads.{view_has}

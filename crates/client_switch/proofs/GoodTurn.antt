@@ -7,7 +7,7 @@ use Rattle.bus_types.specs.Table.{RowList}
 use Rattle.checkpoint.specs.declared.mark.Mark.{Mark}
 use Rattle.checkpoint.specs.declared.mark.Mark.TheVariants.{Online, Delta, Snapshot, Scanned, Catchup}
 use Rattle.checkpoint.specs.Mark.{IsMark}
-use Rattle.bus_wire.specs.Questions.{Reply}
+use Rattle.event_codec.specs.Questions.{Reply}
 use Rattle.client_switch.specs.Moves.{Wish, NoWish, StartWish, FreshWish, IsWished, question}
 use Rattle.client_switch.specs.Good.{Good}
 use Rattle.bus_wire.specs.True.{IsTrueOf}

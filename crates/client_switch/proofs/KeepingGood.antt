@@ -16,7 +16,7 @@ use Rattle.dispatcher.specs.Callbacks.{Call}
 use Rattle.client_switch.specs.declared.client.Took.{Took}
 use Rattle.client_switch.specs.declared.fault.TakeFault.{TakeFault}
 use Rattle.client_switch.specs.declared.fault.TakeFault.TheVariants.{Halted, BadReply, Refused, StoreFault, NoMemory}
-use Rattle.bus_wire.specs.Questions.{Reply}
+use Rattle.event_codec.specs.Questions.{Reply}
 use Rattle.client_switch.specs.Moves.{Turn, turn, rows_left}
 use Rattle.client_switch.specs.Good.{Good}
 use Rattle.client_switch.specs.Client.{Held, IsStored, IsAskOf, asks, IsReply, move_of_turn, Made, Unmade, Takes, KeepsGood, HoldsGood, AreTrueOf}

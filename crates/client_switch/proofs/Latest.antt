@@ -18,7 +18,8 @@ use Rattle.bus_types.specs.View.{view}
 use Rattle.bus_types.proofs.Names.{name_cmp_total, name_cmp_exact}
 use Rattle.bus_types.proofs.Entries.{holds, is_true, ordered-insert, ordered-where, lookup-insert, lookup-where}
 use Rattle.bus_types.proofs.TableLaws.{payload_after, table-ordered, shown-ordered}
-use Rattle.bus_wire.specs.True.{Latest, latest_after, last_changes, changes_after, puts_of}
+use Rattle.bus_types.specs.Latest.{Latest, latest_after, last_changes, changes_after}
+use Rattle.event_codec.specs.Chunks.{puts_of}
 use Rattle.client_switch.proofs.Payloads.{later_none}
 use Rattle.client_switch.proofs.Cursors.{RisesFrom, same_name, not_after_itself, none_before}
 

@@ -18,7 +18,8 @@ use Rattle.bus_types.specs.View.{view}
 use Rattle.bus_types.proofs.Stretches.{between_cases}
 use Rattle.checkpoint.specs.Mark.{IsCursor}
 use Rattle.client_switch.specs.Moves.{cursor_after}
-use Rattle.bus_wire.specs.True.{Latest, latest_after, last_changes, changes_after, puts_of}
+use Rattle.bus_types.specs.Latest.{Latest, latest_after, last_changes, changes_after}
+use Rattle.event_codec.specs.Chunks.{puts_of}
 
 -- ---- elements
 

@@ -10,11 +10,12 @@ use Rattle.bus_types.specs.Relay.Served.{Windows as SomeWindows, TooSmall as Too
 use Rattle.event_codec.specs.declared.answer.Answer.TheVariants.{Empty, TooSmall, Behind, LogGone}
 use Rattle.checkpoint.specs.declared.mark.Mark.{Mark}
 use Rattle.checkpoint.specs.Mark.{IsMark}
-use Rattle.bus_wire.specs.Questions.{Reply, Windows, Only}
+use Rattle.event_codec.specs.Questions.{Reply, Windows, Only}
 use Rattle.client_switch.specs.Moves.{IsWished, turn, rows_left}
 use Rattle.client_switch.specs.Good.{Good}
 use Rattle.client_switch.specs.Lawful.{IsLawfulFor}
-use Rattle.bus_wire.specs.True.{reply_of, frame_size, items_within, chunk_of, replay_of}
+use Rattle.event_codec.specs.Chunks.{frame_size, items_within, chunk_of}
+use Rattle.bus_wire.specs.True.{reply_of, replay_of}
 
 -- what a client is after a reply: its mark keeps the rule of its kind, its wish is one that comes up there, and its rows are
 -- good for it; and the reply is lawful

@@ -10,7 +10,7 @@ use Rattle.dispatcher.specs.Callbacks.Callback.{OnRollback}
 use Rattle.client_switch.specs.declared.client.Took.{Took}
 use Rattle.client_switch.specs.declared.fault.TakeFault.{TakeFault}
 use Rattle.client_switch.specs.declared.fault.TakeFault.TheVariants.{Halted, BadReply, Refused, StoreFault, NoMemory}
-use Rattle.bus_wire.specs.Questions.{Reply}
+use Rattle.event_codec.specs.Questions.{Reply}
 use Rattle.client_switch.specs.Moves.{turn}
 use Rattle.client_switch.specs.Client.{Held, IsReply, checkpoint_calls, CallsAll, Takes}
 use Rattle.client_switch.specs.Turning.{Settles}

@@ -9,7 +9,7 @@ use Rattle.event_codec.specs.declared.answer.Answer.TheVariants.{NotFound, Empty
 use Rattle.checkpoint.specs.declared.mark.Mark.{Mark}
 use Rattle.checkpoint.specs.declared.mark.Mark.TheVariants.{Online, Delta, Snapshot, Scanned, Catchup}
 use Rattle.checkpoint.specs.Mark.{IsMark, floor_of}
-use Rattle.bus_wire.specs.Questions.{Reply, Windows, Rows, Changes, Only}
+use Rattle.event_codec.specs.Questions.{Reply, Windows, Rows, Changes, Only}
 use Rattle.client_switch.specs.Moves.{turn, cursor_after}
 use Rattle.client_switch.specs.Lawful.{asked_least, AreAbove, IsLawfulFor}
 

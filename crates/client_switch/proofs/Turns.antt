@@ -12,9 +12,9 @@ use Rattle.checkpoint.specs.declared.mark.Mark.{Mark}
 use Rattle.checkpoint.specs.declared.mark.Mark.TheVariants.{Online, Delta, Snapshot, Scanned, Catchup}
 use Rattle.checkpoint.specs.Mark.{IsMark, floor_of}
 use Rattle.dispatcher.specs.Telling.{AreAll}
-use Rattle.bus_wire.specs.Questions.{Reply}
+use Rattle.event_codec.specs.Questions.{Reply}
 use Rattle.client_switch.specs.Moves.{Turn, go, changes_of, turn}
-use Rattle.bus_wire.specs.Questions.Reply.{Windows, Only}
+use Rattle.event_codec.specs.Questions.Reply.{Windows, Only}
 use Rattle.client_switch.specs.Client.{IsReply, AreTheWindows}
 use Rattle.client_switch.specs.Turning.{CanAnswer, CanFollow, CanCome}
 

@@ -21,10 +21,10 @@ use Rattle.dispatcher.specs.Telling.{AreAll}
 use Rattle.client_switch.specs.declared.client.Took.{Took}
 use Rattle.client_switch.specs.declared.fault.TakeFault.{TakeFault}
 use Rattle.client_switch.specs.declared.fault.TakeFault.TheVariants.{Halted, BadReply, Refused, StoreFault, NoMemory}
-use Rattle.bus_wire.specs.Questions.{Question, Reply}
+use Rattle.event_codec.specs.Questions.{Question, Reply}
 use Rattle.client_switch.specs.Moves.{Wish, Turn, question, turn}
-use Rattle.bus_wire.specs.Questions.Question.{Stream, Start, Scan, Target, Catchup, Delta}
-use Rattle.bus_wire.specs.Questions.Reply.{Windows, Only}
+use Rattle.event_codec.specs.Questions.Question.{Stream, Start, Scan, Target, Catchup, Delta}
+use Rattle.event_codec.specs.Questions.Reply.{Windows, Only}
 use Rattle.client_switch.specs.Good.{Good}
 use Rattle.bus_wire.specs.True.{IsTrueOf}
 

@@ -6,8 +6,8 @@ use Rattle.event_codec.specs.declared.answer.Answer.{Answer}
 use Rattle.event_codec.specs.declared.answer.Answer.TheVariants.{NotFound, Empty, TooSmall, Behind, LogGone, StartDelta, StartSnapshot, Target as GoTo}
 use Rattle.checkpoint.specs.declared.mark.Mark.{Mark}
 use Rattle.checkpoint.specs.declared.mark.Mark.TheVariants.{Online, Delta, Snapshot, Scanned, Catchup}
-use Rattle.bus_wire.specs.Questions.{Reply}
-use Rattle.bus_wire.specs.Questions.Reply.{Windows, Rows, Changes, Only}
+use Rattle.event_codec.specs.Questions.{Reply}
+use Rattle.event_codec.specs.Questions.Reply.{Windows, Rows, Changes, Only}
 
 -- the SCN after which a mark asks for windows, or 0 where it asks for none
 abbrev pub asked_after : Mark → ℕ

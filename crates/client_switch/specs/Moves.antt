@@ -8,9 +8,9 @@ use Rattle.bus_types.specs.Timeline.{end_from}
 use Rattle.bus_types.specs.Table.{RowList, rows_after}
 use Rattle.event_codec.specs.declared.answer.Answer.{Answer}
 use Rattle.event_codec.specs.declared.answer.Answer.TheVariants.{NotFound, Empty, TooSmall, Behind, LogGone, StartDelta, StartSnapshot, Target as GoTo}
-use Rattle.bus_wire.specs.Questions.{Question, Reply}
-use Rattle.bus_wire.specs.Questions.Question.{Stream, Start, Scan, Target, Catchup, Delta}
-use Rattle.bus_wire.specs.Questions.Reply.{Windows, Rows, Changes, Only}
+use Rattle.event_codec.specs.Questions.{Question, Reply}
+use Rattle.event_codec.specs.Questions.Question.{Stream, Start, Scan, Target, Catchup, Delta}
+use Rattle.event_codec.specs.Questions.Reply.{Windows, Rows, Changes, Only}
 use Rattle.checkpoint.specs.declared.mark.Mark.{Mark}
 use Rattle.checkpoint.specs.declared.mark.Mark.TheVariants.{Online, Delta as Catching, Snapshot, Scanned, Catchup as Replaying}
 use Rattle.checkpoint.specs.Mark.{floor_of}

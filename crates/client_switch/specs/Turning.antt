@@ -22,7 +22,7 @@ use Rattle.client_switch.specs.declared.fault.TakeFault.TheVariants.{Halted, Bad
 use Rattle.client_switch.specs.declared.turn.Turn.{Turn as TurnMade}
 use Rattle.client_switch.specs.declared.wish.Wish.{Wish as Wanted}
 use Rattle.client_switch.specs.declared.wish.Wish.TheVariants as wishes
-use Rattle.bus_wire.specs.Questions.{Reply}
+use Rattle.event_codec.specs.Questions.{Reply}
 use Rattle.client_switch.specs.Moves.{Wish, IsWished, Turn, changes_of, turn}
 use Rattle.client_switch.specs.Moves.Wish.{NoWish, StartWish, FreshWish}
 use Rattle.client_switch.specs.Client.{Held, IsReply, Made, Unmade, commit_of, checkpoint_calls}

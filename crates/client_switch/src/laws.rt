@@ -6,7 +6,7 @@ ghost use Rattle.bus_types.specs.Table.{RowList};
 ghost use Rattle.checkpoint.specs.declared.mark.Mark.{Mark};
 ghost use Rattle.checkpoint.specs.declared.mark.Mark.TheVariants.{Online};
 ghost use Rattle.checkpoint.specs.Mark.{IsMark, floor_of};
-ghost use Rattle.bus_wire.specs.Questions.{Reply};
+ghost use Rattle.event_codec.specs.Questions.{Reply};
 ghost use Rattle.client_switch.specs.Moves.{Wish, IsWished, question, turn, rows_left};
 ghost use Rattle.client_switch.specs.Good.{Good};
 ghost use Rattle.bus_wire.specs.True.{IsTrueOf};

@@ -1,7 +1,7 @@
 ghost use Rattle.std.specs.Prelude.{◌≡◌, true, false, [], IfOk};
 ghost use Rattle.checkpoint.specs.Mark.{IsMark};
 ghost use Rattle.bus_stores.specs.Taking.{Takes};
-ghost use Rattle.bus_wire.specs.Questions.{Reply};
+ghost use Rattle.event_codec.specs.Questions.{Reply};
 ghost use Rattle.client_switch.specs.Moves.{answer_turn, turn, stay, go};
 ghost use Rattle.client_switch.specs.Client.{IsReply, commit_of};
 ghost use Rattle.client_switch.specs.Turning.{wish_of, turn_in, text_of, CanStand, CanCome, CanAnswer};

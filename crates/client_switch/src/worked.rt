@@ -6,9 +6,10 @@ ghost use Rattle.bus_types.specs.Window.{Span};
 ghost use Rattle.bus_types.specs.View.{everything};
 ghost use Rattle.event_codec.specs.declared.answer.Answer.TheVariants.{NotFound, TooSmall, Behind, StartDelta, StartSnapshot, Target as GoTo};
 ghost use Rattle.checkpoint.specs.declared.mark.Mark.TheVariants.{Online, Delta as Catching, Snapshot, Scanned, Catchup as Replaying};
-ghost use Rattle.bus_wire.specs.Questions.{Stream, Start, Target, Windows, Rows, Changes, Only};
+ghost use Rattle.event_codec.specs.Questions.{Stream, Start, Target, Windows, Rows, Changes, Only};
 ghost use Rattle.client_switch.specs.Moves.{NoWish, StartWish, question, turn};
-ghost use Rattle.bus_wire.specs.True.{Boot, boot_reply, chunk_of};
+ghost use Rattle.event_codec.specs.Chunks.{chunk_of};
+ghost use Rattle.bus_wire.specs.True.{Boot, boot_reply};
 ghost use Rattle.client_switch.specs.Worked.{put, gone, window};
 
 /// What a client asks, and what some replies make of it, by computation from the definitions alone.

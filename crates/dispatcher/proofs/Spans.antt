@@ -15,7 +15,7 @@ use Rattle.event_codec.specs.Frames.Run.{Rows, Changes}
 use Rattle.event_codec.proofs.Begun.{event}
 use Rattle.event_codec.proofs.EventBytes.{one_event}
 use Rattle.event_codec.proofs.Frames.{one_closing}
-use Rattle.event_codec.proofs.Windows.{window_length, one_window}
+use Rattle.event_codec.proofs.WindowBytes.{window_length, one_window}
 use Rattle.dispatcher.specs.declared.consumer.Refused.{Refused}
 use Rattle.dispatcher.specs.Callbacks.{Callback, Call, taken, with_calls, StopsAt, run_calls, window_calls, AreWindows, IsRun, Describes}
 use Rattle.dispatcher.specs.Telling.{MakesUpTo, AreEvents, HaveEvents, AreWindow, HaveWindow, AreAll}

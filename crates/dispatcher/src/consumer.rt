@@ -24,7 +24,7 @@ pub trait Consumer {
     // The calls in order, where it tells them.
     ghost calls: { Self → Option (List Call) };
 
-    // How often it has refused.
+    // How often it has refused. It has no greatest value.
     ghost refusals: { Self → ℕ };
 
     /// A window begins, or a run of rows or changes: its SCN.

@@ -3,7 +3,7 @@ ghost use Rattle.bus_types.specs.Causes.{HasCause};
 ghost use Rattle.dispatcher.specs.Callbacks.{Callback, Describes};
 
 use super::*;
-use bus_types::MarkText;
+use bus_types::{Count, MarkText};
 use event_codec::{Answer, EventView, Shape};
 use std::alloc::Global;
 use std::test::*;
@@ -47,7 +47,7 @@ enum Seen {
 struct Recorder {
     seen: Vec<Seen>,
     refuse: Option<usize>,
-    refusals: u64,
+    refusals: Count,
 }
 
 impl Recorder {
@@ -55,7 +55,7 @@ impl Recorder {
         Recorder {
             seen: Vec::new(alloc),
             refuse,
-            refusals: 0,
+            refusals: Count::zero(),
         }
     }
 
@@ -64,7 +64,7 @@ impl Recorder {
     {
         let call = self.seen.len();
         if self.seen.push(seen).is_err() || self.refuse == Some(call) {
-            self.refusals = self.refusals.saturating_add(1);
+            self.refusals.raise();
             return Err(Refusal);
         }
         Ok(())

@@ -1,5 +1,5 @@
 -- An event that is read is the one that was written, and one that was written is read again.
-use Rattle.std.proofs.Common.{◌≡◌, ℕ, ◌+◌, ◌≤◌, false, cond, eqb, ltb, ◌⊎◌, inl, inr, List, ◌++◌, length, get_or, take, drop, Option, Some, None, option_and_then, refl, sym, ap, subst, ◌∙◌, append_assoc, arith}
+use Rattle.std.proofs.Common.{◌≡◌, ℕ, ◌+◌, ◌≤◌, false, ltb, ◌⊎◌, inl, inr, List, ◌++◌, length, get_or, take, drop, Option, Some, None, option_and_then, refl, sym, ap, subst, ◌∙◌, append_assoc, arith}
 use Rattle.std.proofs.Math.Seq.{take-add}
 use Rattle.std.proofs.lemmas.Bool.{ltb-false, le-ltb}
 use Rattle.std.proofs.lemmas.List.{length-append, length-take, length-drop, take_at, append_cancel_left}
@@ -11,6 +11,7 @@ use Rattle.event_codec.specs.declared.head.Head.{Head}
 use Rattle.event_codec.specs.Bytes.{Event, IsEvent, put_bytes, payload_bytes, event_bytes, mark_bytes}
 use Rattle.event_codec.specs.Head.{spelled}
 use Rattle.event_codec.specs.Reading.{head_front, with_payload, event_front}
+use Rattle.event_codec.specs.Parsing.{event_with}
 use Rattle.event_codec.proofs.Numbers.{IsBytes}
 use Rattle.event_codec.proofs.Heads.{IsHead, some_else, head_taken, head_again}
 
@@ -52,15 +53,11 @@ put_head scn source (Long key) None = record { kind = 2; source = source; scn = 
 abbrev pub head_and_payload : Event → Head × List ℕ
 head_and_payload e = (put_head e.scn e.change.source e.change.key e.change.put, payload_bytes e.change.put)
 
--- the event of a head and a payload
-abbrev pub joined : Head × List ℕ → Event
-joined x = record { scn = x.0.scn; change = record { source = x.0.source; key = Long x.0.key; put = cond (eqb x.0.kind 1) (Some x.1) None } }
-
 put_spelled : (scn source : ℕ) (key : Key) (put : Option (List ℕ)) → put_bytes scn source key put ≡ spelled (put_head scn source key put) ++ payload_bytes put
 put_spelled scn source (Long key) (Some payload) = refl
 put_spelled scn source (Long key) None = refl
 
-put_joined : (scn source : ℕ) (key : Key) (put : Option (List ℕ)) → joined (put_head scn source key put, payload_bytes put) ≡ record { scn = scn; change = record { source = source; key = key; put = put } }
+pub put_joined : (scn source : ℕ) (key : Key) (put : Option (List ℕ)) → event_with (put_head scn source key put, payload_bytes put) ≡ record { scn = scn; change = record { source = source; key = key; put = put } }
 put_joined scn source (Long key) (Some payload) = refl
 put_joined scn source (Long key) None = refl
 
@@ -85,7 +82,7 @@ event_again e rest is =
 pub one_event : (d e : Event) (r s : List ℕ) → IsEvent d → IsEvent e → event_bytes d ++ r ≡ event_bytes e ++ s → (d ≡ e) × (r ≡ s)
 one_event d e r s is_d is_e same =
     let read : Some (head_and_payload d) ≡ Some (head_and_payload e) = sym (event_again d r is_d) ∙ ap event_front same ∙ event_again e s is_e in
-    let d_e : d ≡ e = sym (put_joined d.scn d.change.source d.change.key d.change.put) ∙ ap joined (same_Some _ _ read) ∙ put_joined e.scn e.change.source e.change.key e.change.put in
+    let d_e : d ≡ e = sym (put_joined d.scn d.change.source d.change.key d.change.put) ∙ ap event_with (same_Some _ _ read) ∙ put_joined e.scn e.change.source e.change.key e.change.put in
     (d_e, append_cancel_left (event_bytes e) r s (ap (λ (x : Event). event_bytes x ++ r) (sym d_e) ∙ same))
 
 -- ---- lengths and first bytes
@@ -93,6 +90,10 @@ one_event d e r s is_d is_e same =
 put_length : (scn source : ℕ) (key : Key) (put : Option (List ℕ)) → length (put_bytes scn source key put) ≡ change_size (record { source = source; key = key; put = put })
 put_length scn source (Long key) (Some payload) = omega arith
 put_length scn source (Long key) None = refl
+
+pub payload_length : (scn source : ℕ) (key : Key) (put : Option (List ℕ)) → 23 + length (payload_bytes put) ≡ length (put_bytes scn source key put)
+payload_length scn source (Long key) (Some payload) = omega arith
+payload_length scn source (Long key) None = refl
 
 -- an event takes 23 bytes and its payload
 pub event_length : (e : Event) → length (event_bytes e) ≡ change_size e.change

@@ -8,7 +8,7 @@ use Rattle.bus_types.specs.Change.{AreChanges, change_size}
 use Rattle.bus_types.specs.Window.{Span}
 use Rattle.event_codec.specs.Bytes.{event_bytes, mark_bytes, changes_bytes, window_bytes}
 use Rattle.event_codec.proofs.EventBytes.{one_event, no_event_is_a_mark}
-use Rattle.event_codec.proofs.Windows.{one_window}
+use Rattle.event_codec.proofs.WindowBytes.{one_window}
 use Rattle.event_codec.specs.Items.{Since, open_of, has_right_scn, Front, front_of}
 use Rattle.event_codec.specs.Items.Front.{Unfinished, Refused, AnEvent, AMark}
 use Rattle.event_codec.specs.Streams.{Comes, Come, after_window, after_windows, windows_bytes, Begins, Behind, IsReading}

@@ -8,3 +8,8 @@ pub mod Frames
 pub mod Items
 pub mod Streams
 pub mod Reply
+pub mod Questions
+pub mod Chunks
+pub mod Parsing
+pub mod Forms
+pub mod ReplyViews

@@ -1,9 +1,9 @@
-ghost use Rattle.std.specs.Prelude.{◌≡◌, ◌+◌, ◌≤◌, ℕ, length, IfSome, IfNone, IfOk, option_map};
+ghost use Rattle.std.specs.Prelude.{◌≡◌, ◌+◌, ◌≤◌, ℕ, length, IfSome, IfNone, IfOk, OnErr, MatchOption, Some, None, option_map};
 ghost use Rattle.event_codec.specs.Bytes.{Event, IsEvent, event_bytes, StandsAt};
 
 use crate::head::{HEAD_SIZE, Head, PUT};
 use crate::number::tail;
-use bus_types::{Change, Key, NoMemory, Payload};
+use bus_types::{Change, Key, NoMemory, Payload, PayloadFault};
 use std::alloc::Global;
 
 /// An event where it stands in bytes.
@@ -25,6 +25,7 @@ impl<'a> EventView<'a> {
     ghost use Rattle.event_codec.specs.View.{event_of, IsView};
     ghost use Rattle.event_codec.specs.Reading.{event_front};
     ghost use Rattle.event_codec.specs.Parts.{parts};
+    ghost use Rattle.event_codec.specs.Parsing.{event_in_front};
 
     // The event that bytes begin with.
     #[tactic(auto, unfolding(crate::specs::Reading::event_front))]
@@ -47,6 +48,17 @@ impl<'a> EventView<'a> {
         })
     }
 
+    // The event that bytes begin with, its own bytes, and those behind it.
+    pub(crate) fn split(bytes: &'a [u8]) -> Option<(EventView<'a>, &'a [u8], &'a [u8])>
+        ensures found { MatchOption result (event_in_front bytes.now ≡ None) (λ x. event_in_front bytes.now ≡ Some (event_of x.0, x.2.now)) }
+        ensures view { IfSome result (λ x. IsView x.0) }
+        ensures own { IfSome result (λ x. x.1.now ≡ event_bytes (event_of x.0)) }
+    {
+        let view = EventView::front(bytes)?;
+        let (own, behind) = bytes.split_at(HEAD_SIZE + view.payload.len());
+        Some((view, own, behind))
+    }
+
     /// The event that begins at a place, and the place after it. `None` comes exactly where no event stands there
     /// whole.
     pub fn at(bytes: &'a [u8], place: usize) -> Option<(EventView<'a>, usize)>
@@ -59,21 +71,27 @@ impl<'a> EventView<'a> {
 
     // What the event puts, if it is a put.
     fn put(&self, alloc: Global) -> Result<Option<Payload>, NoMemory>
-        ensures { IfOk result (λ put. put ≡ (event_of self.now).change.put) }
+        requires { IsView self.now }
+        ensures ok { IfOk result (λ put. put ≡ (event_of self.now).change.put) }
+        ensures err { OnErr result (self.now.kind ≡ 1) }
     {
         if self.kind != PUT {
             return Ok(None);
         }
-        let Ok(payload) = Payload::new(alloc, self.payload) else {
-            return Err(NoMemory);
-        };
-        Ok(Some(payload))
+        match Payload::new(alloc, self.payload) {
+            Ok(payload) => Ok(Some(payload)),
+            Err(PayloadFault::NoMemory) => Err(NoMemory),
+            Err(PayloadFault::TooLong) => unreachable!(),
+        }
     }
 
-    /// The change that the event is, with a copy of its payload. Want of memory is its only fault, as long as the
-    /// payload is within its limit.
+    /// The change that the event is, with a copy of its payload. It is asked for an event as [`EventView::at`] gives it.
+    /// Want of memory is its only fault, and comes only where there is a payload to copy: never for a delete, and never
+    /// because of the payload's length.
     pub fn change(&self, alloc: Global) -> Result<Change, NoMemory>
-        ensures { IfOk result (λ change. change ≡ (event_of self.now).change) }
+        requires event { IsView self.now }
+        ensures ok { IfOk result (λ change. change ≡ (event_of self.now).change) }
+        ensures err { OnErr result (self.now.kind ≡ 1) }
     {
         Ok(Change {
             source: self.source,

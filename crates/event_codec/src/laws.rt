@@ -1,6 +1,6 @@
 ghost use Rattle.std.specs.Prelude.{◌≡◌, ◌⊎◌, List, [], ℕ, ◌++◌, length};
 ghost use Rattle.bus_types.specs.Window.{Span, IsSpan};
-ghost use Rattle.event_codec.specs.Bytes.{changes_bytes, window_bytes};
+ghost use Rattle.event_codec.specs.Bytes.{Event, IsEvent, event_bytes, IsMark, mark_bytes, changes_bytes, window_bytes, StandsAt};
 ghost use Rattle.event_codec.specs.Items.{Since, Front};
 ghost use Rattle.event_codec.specs.Items.Front.{Unfinished, Refused};
 ghost use Rattle.event_codec.specs.Streams.{IsReading, Behind};
@@ -13,8 +13,15 @@ pub fn no_window_begins_another()
     ensures { (one other : Span) (rest : List ℕ) → IsSpan one → IsSpan other → window_bytes other ≡ window_bytes one ++ rest → (one ≡ other) × (rest ≡ []) }
 {}
 
-/// A law of the frames that end or replace the items of a reply: each closing frame and each answer has one spelling.
+/// A law of the items of a reply: at a place stands one event at most or one mark at most, and never both, and each
+/// closing frame and each answer has one spelling.
 pub fn a_frame_is_read_in_one_way()
+    ensures events { (bytes : List ℕ) (place next after : ℕ) (one other : Event) → IsEvent one → IsEvent other →
+        StandsAt bytes place (event_bytes one) next → StandsAt bytes place (event_bytes other) after → (one ≡ other) × (next ≡ after) }
+    ensures marks { (bytes : List ℕ) (place next after scn prev other before : ℕ) → IsMark scn prev → IsMark other before →
+        StandsAt bytes place (mark_bytes scn prev) next → StandsAt bytes place (mark_bytes other before) after → (scn ≡ other) × (prev ≡ before) }
+    ensures apart { (bytes : List ℕ) (place next after scn prev : ℕ) (event : Event) →
+        StandsAt bytes place (event_bytes event) next → StandsAt bytes place (mark_bytes scn prev) after → ⊥ }
     ensures closings { (one other : Closing) → IsClosing one → IsClosing other → closing_bytes one ≡ closing_bytes other → one ≡ other }
     ensures answers { (one other : Answer) → IsAnswer one → IsAnswer other → answer_bytes one ≡ answer_bytes other → one ≡ other }
 {}

@@ -9,6 +9,7 @@ mod event;
 mod head;
 mod item;
 mod laws;
+mod lent;
 mod mark;
 mod number;
 mod reply;
@@ -20,9 +21,7 @@ pub use close::close_bytes;
 pub use event::EventView;
 pub use item::{Events, Follows, Item, item_front};
 pub use laws::{a_frame_is_read_in_one_way, a_stream_is_read_in_one_way, no_window_begins_another};
+pub use lent::{Run, WindowView, Windows};
 pub use mark::{MARK_SIZE, mark_at, mark_bytes};
-pub use reply::{Served, Shape};
+pub use reply::{ReplyView, Served, Shape};
 pub use write::{event_head, write_filtered, write_window};
-
-#[cfg(test)]
-mod tests;

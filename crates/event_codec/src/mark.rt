@@ -1,4 +1,4 @@
-ghost use Rattle.std.specs.Prelude.{◌≡◌, ◌+◌, ℕ, IfSome, IfNone};
+ghost use Rattle.std.specs.Prelude.{◌≡◌, ◌+◌, ◌≤◌, ℕ, length, IfSome, IfNone};
 ghost use Rattle.event_codec.specs.Bytes.{IsMark, mark_bytes, StandsAt, mark_size};
 ghost use Rattle.event_codec.specs.Reading.{mark_front};
 
@@ -25,8 +25,9 @@ pub fn mark_bytes(scn: u64, prev: u64) -> [u8; 17]
 
 // The mark that bytes begin with.
 #[tactic(auto, unfolding(crate::specs::Reading::mark_front))]
-fn front(bytes: &[u8]) -> Option<(u64, u64)>
-    ensures { result ≡ mark_front bytes.now }
+pub(crate) fn front(bytes: &[u8]) -> Option<(u64, u64)>
+    ensures value { result ≡ mark_front bytes.now }
+    ensures long { IfSome result (λ _. 17 ≤ length bytes.now) }
 {
     if bytes.len() < MARK_SIZE {
         return None;

@@ -2,7 +2,7 @@ ghost use Rattle.std.specs.Prelude.{◌≡◌, ◌+◌, ◌≤◌, ◌<◌, ◌+
 ghost use Rattle.bus_types.specs.Change.{accepted, change_size, changes_size};
 ghost use Rattle.bus_types.specs.Cut.{cut};
 ghost use Rattle.bus_types.specs.Window.{span_size};
-ghost use Rattle.event_codec.specs.Bytes.{event_bytes, payload_bytes, changes_bytes, window_bytes};
+ghost use Rattle.event_codec.specs.Bytes.{event_bytes, payload_bytes, changes_bytes, mark_bytes, window_bytes};
 ghost use Rattle.event_codec.specs.Writing.{accepted_bytes};
 
 use crate::head::{DELETE, Head, PUT};
@@ -72,6 +72,14 @@ fn append_changes<F: Accepts>(scn: u64, changes: &[Change], filter: &F, out: &mu
     }
 }
 
+// Appends the mark of a window. There is room for it.
+fn append_mark(window: &Window, out: &mut Vec<u8>)
+    requires { vec_len out.old + 17 ≤ vec_capacity out.old }
+    ensures { out.new.items ≡ out.old.items ++ mark_bytes window.now.scn window.now.prev }
+{
+    append(&mark_bytes(window.scn(), window.prev()), out);
+}
+
 /// Appends the bytes of a window: its events in order and then its mark. After want of memory the output is as before.
 /// The output grows in its own allocator.
 #[tactic(auto, using(bus_types::proofs::TableLaws::cut_everything))]
@@ -98,6 +106,6 @@ pub fn write_filtered<F: Accepts>(
     out.reserve(window.size() as usize)?;
     let scn = window.scn();
     append_changes(scn, window.changes(), filter, out);
-    append(&mark_bytes(scn, window.prev()), out);
+    append_mark(window, out);
     Ok(())
 }

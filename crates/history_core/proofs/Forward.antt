@@ -23,12 +23,14 @@ use Rattle.bus_stores.specs.Memory.{stop_at}
 use Rattle.checkpoint.specs.declared.mark.Mark.{Mark}
 use Rattle.checkpoint.specs.declared.mark.Mark.TheVariants.{Online, Delta, Snapshot, Scanned, Catchup}
 use Rattle.checkpoint.specs.Mark.{floor_of}
-use Rattle.bus_wire.specs.Questions.{Reply}
+use Rattle.event_codec.specs.Questions.{Reply}
 use Rattle.client_switch.specs.Moves.{Wish, Turn, question, turn, replayed}
 use Rattle.client_switch.specs.Moves.Wish.{NoWish, StartWish, FreshWish}
-use Rattle.bus_wire.specs.Questions.Question.{Start}
-use Rattle.bus_wire.specs.Questions.Reply.{Rows, Changes, Only}
-use Rattle.bus_wire.specs.True.{Boot, reply_of, items_within, frame_size, chunk_of, replay_of, puts_of, last_changes, changes_after, boot_reply}
+use Rattle.event_codec.specs.Questions.Question.{Start}
+use Rattle.event_codec.specs.Questions.Reply.{Rows, Changes, Only}
+use Rattle.bus_types.specs.Latest.{last_changes, changes_after}
+use Rattle.event_codec.specs.Chunks.{items_within, frame_size, chunk_of, puts_of}
+use Rattle.bus_wire.specs.True.{Boot, reply_of, replay_of, boot_reply}
 use Rattle.trace_script.specs.declared.line.Line.{Line}
 use Rattle.trace_script.specs.declared.line.Line.TheVariants.{Blank, Relay, Consumer, Commit, Feed, Log, Apply, Trim, RestartBoot, Poll, Crash, Stop as StopLine, Show, Stream}
 use Rattle.trace_script.specs.Lines.{line_of}
@@ -51,7 +53,7 @@ either_by P false x y p q = q refl
 -- ---- consumers
 
 -- the consumers go on, and their marks lead forward
-abbrev Ahead : List Follower → List Follower → Type 0
+abbrev pub Ahead : List Follower → List Follower → Type 0
 Ahead cs ds = GoOn cs ds × AreForward ds
 
 go_on_same : (cs : List Follower) → GoOn cs cs
@@ -351,3 +353,21 @@ go_on s count used (line ∷ lines) h =
     either (λ (p : Played). Ahead s.consumers p.state.consumers) (is_too_long count used line) (ended (TooLongAt (count + 1)) s) (play_on (text_step s line.text) s (count + 1) rest)
     (go_on_same s.consumers, h)
     (then_on s (count + 1) (text_step s line.text) rest h (leads_text s line.text h) (λ next f. go_on next (count + 1) (used + line.size) lines f))
+
+-- the same first line, and then other ones
+then_both : (s : State) (line : ℕ) (step : Step) (first second : State → Played) → AreForward s.consumers → Leads s step → ((next : State) → AreForward next.consumers → Ahead (first next).state.consumers (second next).state.consumers) → Ahead (play_on step s line first).state.consumers (play_on step s line second).state.consumers
+then_both s line None first second h leads more = (go_on_same s.consumers, h)
+then_both s line (Some r) first second h leads more = more r.0 (leads r.0 r.1 refl).1
+
+both : (b : Bool) (p first second : Played) → Ahead p.state.consumers p.state.consumers → Ahead first.state.consumers second.state.consumers → Ahead (cond b p first).state.consumers (cond b p second).state.consumers
+both true p first second h rest = h
+both false p first second h rest = rest
+
+-- whatever lines come behind others, no consumer goes back
+pub go_on_behind : (s : State) (count used : ℕ) (front back : List RawLine) → AreForward s.consumers → Ahead (played s count used front).state.consumers (played s count used (front ++ back)).state.consumers
+unfolding played
+go_on_behind s count used [] back h = go_on s count used back h
+go_on_behind s count used (line ∷ front) back h =
+    both (is_too_long count used line) (ended (TooLongAt (count + 1)) s) (play_on (text_step s line.text) s (count + 1) (λ next. played next (count + 1) (used + line.size) front)) (play_on (text_step s line.text) s (count + 1) (λ next. played next (count + 1) (used + line.size) (front ++ back)))
+    (go_on_same s.consumers, h)
+    (then_both s (count + 1) (text_step s line.text) (λ next. played next (count + 1) (used + line.size) front) (λ next. played next (count + 1) (used + line.size) (front ++ back)) h (leads_text s line.text h) (λ next f. go_on_behind next (count + 1) (used + line.size) front back f))

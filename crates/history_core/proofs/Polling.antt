@@ -23,7 +23,7 @@ use Rattle.bus_stores.specs.Memory.{MemoryStore, last_mark, no_fails, told_by}
 use Rattle.client_switch.specs.declared.client.Took.{Took}
 use Rattle.client_switch.specs.declared.fault.TakeFault.{TakeFault}
 use Rattle.client_switch.specs.declared.fault.TakeFault.TheVariants.{Halted, BadReply, Refused, StoreFault, NoMemory}
-use Rattle.bus_wire.specs.Questions.{Reply}
+use Rattle.event_codec.specs.Questions.{Reply}
 use Rattle.client_switch.specs.Moves.{Wish, Turn, turn}
 use Rattle.client_switch.specs.Moves.Wish.{NoWish}
 use Rattle.client_switch.specs.Good.{Good}

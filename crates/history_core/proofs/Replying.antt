@@ -15,7 +15,7 @@ use Rattle.event_codec.specs.Frames.{answer_bytes}
 use Rattle.event_codec.specs.Items.{Since}
 use Rattle.event_codec.specs.Streams.{Come, after_window, windows_bytes}
 use Rattle.event_codec.specs.Reply.{reply_bytes}
-use Rattle.event_codec.proofs.Windows.{window_length, one_window}
+use Rattle.event_codec.proofs.WindowBytes.{window_length, one_window}
 use Rattle.bus_wire.specs.declared.ask.Ask.{Ask}
 use Rattle.bus_wire.specs.declared.ask.Ask.TheVariants.{Stream as StreamAsk, Start as StartAsk}
 use Rattle.bus_wire.specs.Lawful.{IsLawful, after_floor}
@@ -24,11 +24,11 @@ use Rattle.bus_wire.proofs.Uniqueness.{one_shape}
 use Rattle.bus_wire.proofs.Replies.{place_bound, relay_serves, relay_is_lawful}
 use Rattle.checkpoint.specs.declared.mark.Mark.{Mark}
 use Rattle.checkpoint.specs.declared.mark.Mark.TheVariants.{Online, Delta, Snapshot, Scanned, Catchup}
-use Rattle.bus_wire.specs.Questions.{Question, Reply}
+use Rattle.event_codec.specs.Questions.{Question, Reply}
 use Rattle.client_switch.specs.Moves.{Wish, question, turn}
 use Rattle.client_switch.specs.Moves.Wish.{NoWish, StartWish, FreshWish}
-use Rattle.bus_wire.specs.Questions.Question.{Stream, Start}
-use Rattle.bus_wire.specs.Questions.Reply.{Windows, Only}
+use Rattle.event_codec.specs.Questions.Question.{Stream, Start}
+use Rattle.event_codec.specs.Questions.Reply.{Windows, Only}
 use Rattle.client_switch.specs.Client.{is_built, IsAskOf, IsReply}
 use Rattle.bus_wire.specs.True.{Boot, IsBoot, reply_of, IsTrueOf}
 use Rattle.history_core.specs.Script.{Follower, served_line, reply_line}

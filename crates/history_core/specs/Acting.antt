@@ -14,9 +14,9 @@ use Rattle.event_codec.specs.Frames.{answer_bytes}
 use Rattle.event_codec.specs.Reply.{reply_bytes}
 use Rattle.bus_wire.specs.declared.ask.Ask.{Ask}
 use Rattle.bus_wire.specs.declared.ask.Ask.TheVariants.{Stream, Start}
-use Rattle.bus_wire.specs.Questions.{Reply}
-use Rattle.bus_wire.specs.Questions.Question.{Start as Begin}
-use Rattle.bus_wire.specs.Questions.Reply.{Only as Alone}
+use Rattle.event_codec.specs.Questions.{Reply}
+use Rattle.event_codec.specs.Questions.Question.{Start as Begin}
+use Rattle.event_codec.specs.Questions.Reply.{Only as Alone}
 use Rattle.bus_wire.specs.True.{Boot, boot_reply}
 use Rattle.bus_stores.specs.Memory.{MemoryStore, last_mark}
 use Rattle.client_switch.specs.Moves.{question}

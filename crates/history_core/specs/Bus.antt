@@ -1,8 +1,8 @@
 -- The bus as it is kept, against the state of a script.
-use Rattle.std.specs.Prelude.{◌≡◌, ℕ, ◌≤◌, Bool, false, List, [], length, map, take, slice_get, Option, Some, None, Result, Ok, Err}
+use Rattle.std.specs.Prelude.{◌≡◌, ℕ, ◌<◌, ◌≤◌, Bool, false, List, [], length, map, take, slice_get, Option, Some, None, Result, Ok, Err}
 use Rattle.std.specs.List.{AllByRecursion}
 use Rattle.std.specs.Io.KnownBytes.{Appends}
-use Rattle.bus_types.specs.Causes.{Rose}
+use Rattle.bus_types.specs.Causes.{WasCounted}
 use Rattle.bus_types.specs.Window.{Span}
 use Rattle.bus_types.specs.Relay.{Relay, StandsFor}
 use Rattle.partition_filter.specs.Selection.{test_of}
@@ -105,11 +105,12 @@ pub record TookLine (defined : Step) (new : Parts) (written written' : Option (L
   pub sound : IsSound new
   pub wrote : Appends written written' text
 
--- of the text of a line only a front of this length was written
+-- of the text of a line only a front of this length was written, which isn't the whole text
 pub record BrokeOff (defined : Step) (count : ℕ) (written written' : Option (List ℕ)) : Type 0 where
   pub next : State
   pub text : List ℕ
   pub is : defined ≡ Some (next, text)
+  pub short : count < length text
   pub wrote : Appends written written' (take count text)
 
 -- a step, by its answer: a bad line is one that nothing is defined for, and changes nothing; where memory ran out nothing was
@@ -138,7 +139,7 @@ OnOnline (Catchup since start target at) P = Unit {0}
 
 -- the keeper of a consumer that is online was called
 abbrev pub WasCalled : MemberState → MemberState → Type 0
-WasCalled m n = OnOnline m.client.mark (Rose m.store.calls n.store.calls)
+WasCalled m n = OnOnline m.client.mark (WasCounted m.store.calls n.store.calls)
 
 -- a line that shows a consumer's rows calls its keeper
 abbrev pub Calls : Line → Parts → Parts → Type 0

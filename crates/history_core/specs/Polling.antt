@@ -6,7 +6,7 @@ use Rattle.bus_types.specs.Window.{Span}
 use Rattle.bus_types.specs.Relay.{Relay, StandsFor}
 use Rattle.bus_wire.specs.declared.ask.Ask.{Ask}
 use Rattle.bus_wire.specs.declared.ask.Ask.TheVariants.{Stream, Start}
-use Rattle.bus_wire.specs.Questions.Question.{Start as Begin}
+use Rattle.event_codec.specs.Questions.Question.{Start as Begin}
 use Rattle.bus_wire.specs.True.{Boot, IsBoot, boot_reply}
 use Rattle.client_switch.specs.Client.{IsAskOf, asks}
 use Rattle.history_core.specs.Steps.{is_followed, followed}

@@ -1,5 +1,5 @@
 -- What a script means: the text that it prints, how it ends, and the state that it leaves.
-use Rattle.std.specs.Prelude.{◌≡◌, ◌≤◌, ℕ, ◌+◌, if◌then◌else◌, List, [], ◌∷◌, ◌++◌, Some, None, option_and_then}
+use Rattle.std.specs.Prelude.{◌≡◌, ◌≤◌, ℕ, ◌+◌, Bool, true, false, if◌then◌else◌, List, [], ◌∷◌, ◌++◌, Some, None, option_and_then}
 use Rattle.checkpoint.specs.declared.mark.Mark.{Mark}
 use Rattle.checkpoint.specs.declared.mark.Mark.TheVariants.{Online, Delta, Snapshot, Scanned, Catchup}
 use Rattle.checkpoint.specs.Mark.{floor_of}
@@ -13,22 +13,43 @@ use Rattle.trace_script.specs.Input.{RawLine, lines_of, is_too_long}
 use Rattle.history_core.specs.Script.{Follower, State, start}
 use Rattle.history_core.specs.Steps.{Step, begin, relay_step, consumer_step, commit_step, feed_step, stream_step, log_step, apply_step, trim_step, restart_step, poll_step, crash_step, stop_step, show_step}
 
--- what a line does whose numbers are in their ranges; a blank one does nothing, and any other begins the script
+-- whether a line is blank
+abbrev pub is_blank : Line → Bool
+is_blank Blank = true
+is_blank (Relay bytes windows) = false
+is_blank (Consumer name filter) = false
+is_blank (Commit scn changes) = false
+is_blank (Feed count) = false
+is_blank (Log count) = false
+is_blank (Apply count) = false
+is_blank (Trim scn) = false
+is_blank RestartBoot = false
+is_blank (Poll name max) = false
+is_blank (Crash name) = false
+is_blank (Stop name after) = false
+is_blank (Show name) = false
+is_blank (Stream scn filter max) = false
+
+-- what each line does of its own; a blank one does nothing
+abbrev pub effect : State → Line → Step
+effect s Blank = Some (s, [])
+effect s (Relay bytes windows) = relay_step s bytes windows
+effect s (Consumer name filter) = consumer_step s name filter
+effect s (Commit scn changes) = commit_step s scn changes
+effect s (Feed count) = feed_step s count
+effect s (Log count) = log_step s count
+effect s (Apply count) = apply_step s count
+effect s (Trim scn) = trim_step s scn
+effect s RestartBoot = restart_step s
+effect s (Poll name max) = poll_step s name max
+effect s (Crash name) = crash_step s name
+effect s (Stop name after) = stop_step s name (stop_at after)
+effect s (Show name) = show_step s name
+effect s (Stream scn filter max) = stream_step s scn (test_of filter) max
+
+-- what a line does whose numbers are in their ranges: a blank one nothing, and any other begins the script
 abbrev pub act : State → Line → Step
-act s Blank = Some (s, [])
-act s (Relay bytes windows) = begin (relay_step s bytes windows)
-act s (Consumer name filter) = begin (consumer_step s name filter)
-act s (Commit scn changes) = begin (commit_step s scn changes)
-act s (Feed count) = begin (feed_step s count)
-act s (Log count) = begin (log_step s count)
-act s (Apply count) = begin (apply_step s count)
-act s (Trim scn) = begin (trim_step s scn)
-act s RestartBoot = begin (restart_step s)
-act s (Poll name max) = begin (poll_step s name max)
-act s (Crash name) = begin (crash_step s name)
-act s (Stop name after) = begin (stop_step s name (stop_at after))
-act s (Show name) = begin (show_step s name)
-act s (Stream scn filter max) = begin (stream_step s scn (test_of filter) max)
+act s line = if is_blank line then Some (s, []) else begin (effect s line)
 
 -- what a line does: nothing where a number is outside the ranges of the grammar
 abbrev pub line_step : State → Line → Step

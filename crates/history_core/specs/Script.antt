@@ -16,9 +16,9 @@ use Rattle.checkpoint.specs.declared.mark.Mark.{Mark}
 use Rattle.checkpoint.specs.declared.mark.Mark.TheVariants.{Online, Delta, Snapshot, Scanned, Catchup}
 use Rattle.bus_stores.specs.declared.keeper.Stop.{Stop}
 use Rattle.bus_stores.specs.declared.keeper.Stop.TheVariants.{Before, After}
-use Rattle.bus_wire.specs.Questions.{Reply}
+use Rattle.event_codec.specs.Questions.{Reply}
 use Rattle.client_switch.specs.Moves.{Wish}
-use Rattle.bus_wire.specs.Questions.Reply.{Windows, Rows, Changes, Only}
+use Rattle.event_codec.specs.Questions.Reply.{Windows, Rows, Changes, Only}
 use Rattle.bus_wire.specs.True.{Boot}
 
 -- a consumer: its name, its filter, the mark that its keeper holds, what it wants beside it, the stop that its next commit

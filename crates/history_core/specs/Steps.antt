@@ -13,11 +13,11 @@ use Rattle.checkpoint.specs.declared.mark.Mark.{Mark}
 use Rattle.checkpoint.specs.declared.mark.Mark.TheVariants.{Online}
 use Rattle.checkpoint.specs.Mark.{mark_text}
 use Rattle.event_codec.specs.declared.answer.Answer.TheVariants.{NotFound, Empty, TooSmall, Behind, LogGone, StartDelta, StartSnapshot, Target as GoTo}
-use Rattle.bus_wire.specs.Questions.{Question, Reply}
-use Rattle.bus_wire.specs.Questions.Reply.{Windows, Rows, Changes, Only}
+use Rattle.event_codec.specs.Questions.{Question, Reply}
+use Rattle.event_codec.specs.Questions.Reply.{Windows, Rows, Changes, Only}
 use Rattle.client_switch.specs.Moves.{Turn, question, turn}
 use Rattle.client_switch.specs.Moves.Wish.{NoWish}
-use Rattle.bus_wire.specs.Questions.Question.{Stream, Start, Scan, Target, Catchup, Delta}
+use Rattle.event_codec.specs.Questions.Question.{Stream, Start, Scan, Target, Catchup, Delta}
 use Rattle.bus_wire.specs.True.{Boot, reply_of, boot_reply}
 use Rattle.history_core.specs.Script.{Follower, State, floor, relay_line, gap_line, boot_line, stream_line, reply_line, stopped_line, shown}
 

@@ -7,7 +7,7 @@ ghost use Rattle.trace_script.specs.declared.line.Line.{Line};
 ghost use Rattle.trace_script.specs.Spelling.{is_in_range};
 ghost use Rattle.history_core.specs.Script.{start};
 ghost use Rattle.history_core.specs.Steps.{Step, begin, place_of, relay_step, consumer_step, commit_step, feed_step, log_step, apply_step, trim_step, restart_step, stream_step, poll_step, crash_step, stop_step, show_step};
-ghost use Rattle.history_core.specs.Run.{act, line_step};
+ghost use Rattle.history_core.specs.Run.{is_blank, effect, act, line_step};
 ghost use Rattle.history_core.specs.Bus.{Parts, state_of, followers, IsSound, Steps, OnWriteFault, Calls};
 ghost use Rattle.history_core.specs.Acting.{Acts, Does, Publishes};
 
@@ -129,60 +129,35 @@ impl Bus {
         ensures does { Does result (act (state_of self.old) line.now) self.old self.new }
         ensures calls { OnOk result (Calls line.now self.old self.new) }
     {
+        if is_blank(line) {
+            return Ok(Vec::new(alloc));
+        }
+        let done = self.take(alloc, line);
+        self.begin(done)
+    }
+
+    // Takes a line that isn't blank, but for that it has come.
+    fn take(&mut self, alloc: Global, line: &Line) -> Result<Vec<u8>, StepFault>
+        requires sound { IsSound self.old }
+        requires range { is_in_range line.now ≡ true }
+        ensures acts { Acts result (effect (state_of self.old) line.now) self.old self.new }
+        ensures calls { OnOk result (Calls line.now self.old self.new) }
+    {
         match line {
             Line::Blank => Ok(Vec::new(alloc)),
-            Line::Relay { bytes, windows } => {
-                let done = self.set_room(alloc, *bytes, *windows);
-                self.begin(done)
-            }
-            Line::Consumer { name, filter } => {
-                let done = self.declare(alloc, *name, filter);
-                self.begin(done)
-            }
-            Line::Commit { scn, changes } => {
-                let done = self.commit(alloc, *scn, changes);
-                self.begin(done)
-            }
-            Line::Feed(count) => {
-                let done = self.feed(alloc, *count);
-                self.begin(done)
-            }
-            Line::Log(count) => {
-                let done = self.log(alloc, *count);
-                self.begin(done)
-            }
-            Line::Apply(count) => {
-                let done = self.apply(alloc, *count);
-                self.begin(done)
-            }
-            Line::Trim(scn) => {
-                let done = self.trim(alloc, *scn);
-                self.begin(done)
-            }
-            Line::RestartBoot => {
-                let done = self.restart_boot(alloc);
-                self.begin(done)
-            }
-            Line::Stream { scn, filter, max } => {
-                let done = self.stream(alloc, *scn, filter, *max);
-                self.begin(done)
-            }
-            Line::Poll { name, max } => {
-                let done = self.poll(alloc, name, *max);
-                self.begin(done)
-            }
-            Line::Crash(name) => {
-                let done = self.crash(alloc, name);
-                self.begin(done)
-            }
-            Line::Stop { name, after } => {
-                let done = self.stop(alloc, name, *after);
-                self.begin(done)
-            }
-            Line::Show(name) => {
-                let done = self.show(alloc, name);
-                self.begin(done)
-            }
+            Line::Relay { bytes, windows } => self.set_room(alloc, *bytes, *windows),
+            Line::Consumer { name, filter } => self.declare(alloc, *name, filter),
+            Line::Commit { scn, changes } => self.commit(alloc, *scn, changes),
+            Line::Feed(count) => self.feed(alloc, *count),
+            Line::Log(count) => self.log(alloc, *count),
+            Line::Apply(count) => self.apply(alloc, *count),
+            Line::Trim(scn) => self.trim(alloc, *scn),
+            Line::RestartBoot => self.restart_boot(alloc),
+            Line::Stream { scn, filter, max } => self.stream(alloc, *scn, filter, *max),
+            Line::Poll { name, max } => self.poll(alloc, name, *max),
+            Line::Crash(name) => self.crash(alloc, name),
+            Line::Stop { name, after } => self.stop(alloc, name, *after),
+            Line::Show(name) => self.show(alloc, name),
         }
     }
 
@@ -377,6 +352,12 @@ impl Bus {
         let member = &mut self.members[i];
         Ok(member.show(alloc)?)
     }
+}
+
+fn is_blank(line: &Line) -> bool
+    ensures { result ≡ is_blank line.now }
+{
+    matches!(line, Line::Blank)
 }
 
 // Where the consumer of this name stands.

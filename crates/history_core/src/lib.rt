@@ -22,6 +22,3 @@ pub use rows::{
     worked_scripts_of_a_relay, worked_scripts_of_stops, worked_scripts_of_streams,
 };
 pub use worked::{worked_steps, worked_steps_of_a_bootstrap};
-
-#[cfg(test)]
-mod tests;

@@ -1,5 +1,5 @@
 ghost use Rattle.std.specs.Prelude.{◌≡◌, ◌≤◌, false, [], List, Some, IfOk, OnOk};
-ghost use Rattle.bus_types.specs.Causes.{Rose};
+ghost use Rattle.bus_types.specs.Causes.{WasCounted};
 ghost use Rattle.bus_types.specs.Window.{Span};
 ghost use Rattle.checkpoint.specs.declared.mark.Mark.{Mark};
 ghost use Rattle.bus_stores.specs.Memory.{last_mark, stop_at};
@@ -59,7 +59,7 @@ fn rows_of(alloc: Global, keeper: &mut MemoryKeeper) -> Result<Rows, NoMemory>
     requires { keeper.old.fails ≡ [] }
     ensures rows { IfOk result (λ rows. rows ≡ keeper.old.rows) }
     ensures read { WasRead keeper.old keeper.new }
-    ensures called { OnOk result (Rose keeper.old.calls keeper.new.calls) }
+    ensures called { OnOk result (WasCounted keeper.old.calls keeper.new.calls) }
 {
     match all_rows(alloc, keeper) {
         Ok(rows) => Ok(rows),

@@ -9,7 +9,7 @@ ghost use Rattle.client_switch.specs.Client.{IsAskOf, IsStored, asks};
 ghost use Rattle.history_core.specs.Script.{stopped_line};
 ghost use Rattle.bus_stores.specs.Memory.{told_by};
 ghost use Rattle.bus_stores.specs.MemoryLog.{log_of};
-ghost use Rattle.bus_wire.specs.Questions.{Reply};
+ghost use Rattle.event_codec.specs.Questions.{Reply};
 ghost use Rattle.bus_wire.specs.True.{Boot};
 ghost use Rattle.bootstrap_core.specs.Boot.{told, Stands};
 ghost use Rattle.history_core.specs.Steps.{is_followed};

@@ -4,3 +4,4 @@ pub mod RuleTexts
 pub mod FilterTexts
 pub mod Searches
 pub mod Written
+pub mod FaultTexts

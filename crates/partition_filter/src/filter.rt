@@ -1,5 +1,6 @@
-ghost use Rattle.std.specs.Prelude.{◌≡◌, ◌↔◌, ◌≤◌, ◌++◌, ℕ, length, IfOk, OnOk, IsTrue, string_bytes};
+ghost use Rattle.std.specs.Prelude.{◌≡◌, ◌↔◌, ◌≤◌, ◌++◌, ℕ, false, bytes_eq, codes, length, IfOk, IfNone, IsOk, IsErrOf, OnOk, IsTrue, string_bytes};
 ghost use Rattle.partition_filter.specs.Grammar.{filter_of};
+ghost use Rattle.partition_filter.specs.Faults.{fault_of};
 ghost use Rattle.partition_filter.specs.Reading.{Reads};
 ghost use Rattle.partition_filter.specs.Selection.Selection.{All};
 ghost use Rattle.partition_filter.specs.Selection.{Selection, selected};
@@ -7,6 +8,7 @@ ghost use Rattle.partition_filter.specs.Spelling.{IsFilter, filter_text};
 
 use crate::accepting::accepts;
 use crate::fault::FilterFault;
+use crate::faults::first_fault;
 use crate::reading::rules;
 use crate::rule::Rule;
 use crate::writing::{append_rules, append_text};
@@ -46,9 +48,12 @@ impl Filter {
     /// The filter that a text of at most 4,096 bytes spells: `all`, or 1 to 64 rules with `;` between two, of strictly
     /// rising sources. `S*` means all rows of source S, `S%N:B,B` those whose key has a listed remainder by N, and
     /// `S/R:B,B` those whose key divided by R, rounded down, is listed. `BadFilter` comes exactly where the text is no
-    /// filter, and tells the place of the fault. `NoMemory` comes where memory ran out, whatever the text is.
+    /// filter, and tells the place of the fault. `NoMemory` comes where memory ran out, and only of a text that is a filter.
     pub fn read(alloc: Global, text: &str) -> Result<Filter, FilterFault>
         ensures exact { Reads result (filter_of text.now) }
+
+        // Memory is wanted only for a filter.
+        ensures memory { IsErrOf result FilterFault.NoMemory → IsOk (filter_of text.now) }
 
         // What is read is spelled so, and what is bad is spelled by no filter.
         ensures found { IfOk result (λ filter. IsFilter filter × (text.now ≡ filter_text filter)) }
@@ -60,6 +65,9 @@ impl Filter {
     /// As [`Filter::read`], of the bytes of a text. Bytes that are no text are no filter.
     pub fn read_bytes(alloc: Global, text: &[u8]) -> Result<Filter, FilterFault>
         ensures exact { Reads result (filter_of text.now) }
+
+        // Memory is wanted only for a filter.
+        ensures memory { IsErrOf result FilterFault.NoMemory → IsOk (filter_of text.now) }
 
         // What is read is spelled so, and what is bad is spelled by no filter.
         ensures found { IfOk result (λ filter. IsFilter filter × (text.now ≡ filter_text filter)) }
@@ -120,20 +128,33 @@ fn copy_rules(alloc: Global, rules: &[Rule]) -> Result<Vec<Rule>, NoMemory>
     Ok(copies)
 }
 
-#[tactic(auto, unfolding(crate::specs::Grammar::filter_of))]
+#[tactic(auto, using(crate::proofs::FaultTexts::fault_known, crate::proofs::FaultTexts::no_fault), unfolding(crate::specs::Grammar::filter_of))]
 fn selection(alloc: Global, text: &[u8]) -> Result<Filter, FilterFault>
-    ensures { Reads result (filter_of text.now) }
+    ensures exact { Reads result (filter_of text.now) }
+    ensures memory { IsErrOf result FilterFault.NoMemory → IsOk (filter_of text.now) }
 {
     if text == b"all".as_slice() {
         return Ok(Filter { rules: None });
     }
-    if text.len() > MAX_TEXT {
-        return Err(FilterFault::BadFilter {
-            place: MAX_TEXT as u64,
-        });
+    if let Some(place) = fault_in(text) {
+        return Err(FilterFault::BadFilter { place });
     }
     let rules = rules(alloc, text)?;
     Ok(Filter { rules: Some(rules) })
+}
+
+/// The place of the fault of a text that isn't `all`, where it has one. It takes no memory.
+#[tactic(auto, using(crate::proofs::FaultTexts::fault_of_selection), unfolding(crate::specs::Grammar::filter_of))]
+fn fault_in(text: &[u8]) -> Option<u64>
+    requires { bytes_eq text.now (codes "all") ≡ false }
+    ensures fault { result ≡ fault_of (filter_of text.now) }
+    ensures short { IfNone result (length text.now ≤ 4096) }
+{
+    if text.len() > MAX_TEXT {
+        Some(MAX_TEXT as u64)
+    } else {
+        first_fault(text)
+    }
 }
 
 impl Accepts for Filter {

@@ -5,6 +5,7 @@
 
 mod accepting;
 mod fault;
+mod faults;
 mod filter;
 mod reading;
 mod rows;
@@ -13,8 +14,5 @@ mod writing;
 
 pub use fault::FilterFault;
 pub use filter::Filter;
-pub use rows::{the_65th_rule_is_refused, what_filters_mean, worked_filters};
+pub use rows::{the_limits_of_filters, what_filters_mean, worked_filters};
 pub use rule::{Keys, Numbers, Rule};
-
-#[cfg(test)]
-mod tests;

@@ -11,13 +11,13 @@ use bus_types::{NoMemory, cut_text, read_number};
 use std::alloc::{AllocError, Global};
 
 /// The most rules of a filter.
-const MAX_RULES: usize = 64;
+pub(crate) const MAX_RULES: usize = 64;
 
 /// The most numbers of a rule.
-const MAX_NUMBERS: usize = 64;
+pub(crate) const MAX_NUMBERS: usize = 64;
 
 /// The most that a remainder is by.
-const MAX_REMAINDER: u64 = 65_536;
+pub(crate) const MAX_REMAINDER: u64 = 65_536;
 
 /// The rules that the text spells.
 pub(crate) fn rules(alloc: Global, text: &[u8]) -> Result<Vec<Rule>, FilterFault>
@@ -79,7 +79,7 @@ fn next_rule(
 }
 
 /// Whether the number is above the one before it, where there is one.
-fn is_above(before: Option<u64>, number: u64) -> bool
+pub(crate) fn is_above(before: Option<u64>, number: u64) -> bool
     ensures { result ≡ is_above before number }
 {
     match before {
@@ -159,7 +159,7 @@ fn quotient(alloc: Global, text: &[u8]) -> Result<Option<Keys>, NoMemory>
 
 /// Nothing.
 #[tactic(auto, unfolding(crate::specs::Grammar::every_of))]
-fn every(text: &[u8]) -> Option<Keys>
+pub(crate) fn every(text: &[u8]) -> Option<Keys>
     ensures { result ≡ every_of text.now }
 {
     if text.is_empty() {
@@ -171,7 +171,7 @@ fn every(text: &[u8]) -> Option<Keys>
 
 /// A number from 1 to `max`.
 #[tactic(auto, unfolding(crate::specs::Grammar::divisor_of))]
-fn divisor(max: u64, text: &[u8]) -> Option<u64>
+pub(crate) fn divisor(max: u64, text: &[u8]) -> Option<u64>
     ensures value { result ≡ divisor_of max text.now }
     ensures some { IfSome result (λ by. 1 ≤ by) }
     ensures small { IfSome result (λ by. by ≤ max) }

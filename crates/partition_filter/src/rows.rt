@@ -22,7 +22,6 @@ pub fn worked_filters()
     ensures by_none { filter_of (codes "0%0:0") ≡ Err 0 }
     ensures leading_zero { filter_of (codes "00*") ≡ Err 0 }
     ensures third { filter_of (codes "1*;2/7:0;3%2") ≡ Err 9 }
-    ensures too_long { filter_of (replicate 4097 32) ≡ Err 4096 }
 {}
 
 /// What some filters accept, by computation from the definitions alone.
@@ -39,7 +38,19 @@ pub fn what_filters_mean()
     ensures above { test_of (Rules ((record { source = 0; keys = Quotient 100 (2 ∷ []) }) ∷ [])) 0 (Long 300) ≡ false }
 {}
 
-/// At most 64 rules are a filter, by computation from the definitions alone.
-pub fn the_65th_rule_is_refused()
-    ensures { filter_of (codes "0*" ++ flat_map (λ source. codes ";" ++ decimal source ++ codes "*") (range_with_len 1 64)) ≡ Err 246 }
+/// The limits of filters, by computation from the definitions alone: a text has at most 4,096 bytes, a filter at most 64
+/// rules, a rule at most 64 numbers, a source is at most 65,535, and a remainder is by 1 to 65,536.
+pub fn the_limits_of_filters()
+    ensures long_text { filter_of (replicate 4096 32) ≡ Err 0 }
+    ensures longer_text { filter_of (replicate 4097 32) ≡ Err 4096 }
+    ensures more_rules { filter_of (codes "0*" ++ flat_map (λ source. codes ";" ++ decimal source ++ codes "*") (range_with_len 1 64)) ≡ Err 246 }
+    ensures most_numbers { filter_of (codes "0/1:0" ++ flat_map (λ number. codes "," ++ decimal number) (range_with_len 1 63)) ≡ Ok (Rules ((record { source = 0; keys = Quotient 1 (range_with_len 0 64) }) ∷ [])) }
+    ensures more_numbers { filter_of (codes "0/1:0" ++ flat_map (λ number. codes "," ++ decimal number) (range_with_len 1 64)) ≡ Err 0 }
+    ensures last_source { filter_of (codes "65535*") ≡ Ok (Rules ((record { source = 65535; keys = Every }) ∷ [])) }
+    ensures later_source { filter_of (codes "65536*") ≡ Err 0 }
+    ensures most_remainder { filter_of (codes "0%65536:65535") ≡ Ok (Rules ((record { source = 0; keys = Remainder 65536 (65535 ∷ []) }) ∷ [])) }
+    ensures more_remainder { filter_of (codes "0%65537:0") ≡ Err 0 }
+    ensures most_quotient { filter_of (codes "0/18446744073709551615:18446744073709551615") ≡ Ok (Rules ((record { source = 0; keys = Quotient 18446744073709551615 (18446744073709551615 ∷ []) }) ∷ [])) }
+    ensures more_quotient { filter_of (codes "0/18446744073709551616:0") ≡ Err 0 }
+    ensures by_none { filter_of (codes "0/0:0") ≡ Err 0 }
 {}

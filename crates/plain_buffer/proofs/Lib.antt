@@ -1,5 +1,6 @@
 pub mod Evicting
 pub mod Publishing
+pub mod RelayRule
 pub mod Runs
 pub mod Sending
 pub mod Serving

@@ -1,9 +1,10 @@
 -- Parts of a reply, sent one after the other.
-use Rattle.std.proofs.Common.{◌≡◌, ℕ, ◌+◌, ◌-◌, ◌<◌, ◌≤◌, Bool, true, false, cond, suc, List, [], ◌∷◌, ◌++◌, length, length-append, get_or, take, drop, Option, Result, Ok, Err, sym, ap, subst, ◌∙◌, arith}
+use Rattle.std.proofs.Common.{◌≡◌, ℕ, ◌+◌, ◌-◌, ◌<◌, ◌≤◌, Bool, true, false, cond, suc, List, [], ◌∷◌, ◌++◌, length, length-append, get_or, take, drop, Option, Some, None, Result, Ok, Err, sym, ap, subst, ◌∙◌, arith}
 use Rattle.std.proofs.lemmas.List.{take-append-le, drop_more, drop_all}
 use Rattle.std.proofs.Math.Seq.{take-append-add}
 use Rattle.std.proofs.KnownBytes.{Appends-nil, Appends-trans}
 use Rattle.std.specs.Io.KnownBytes.{Appends}
+use Rattle.std.specs.Prelude.{IfSome}
 use Rattle.bus_types.specs.declared.change.Change.{Change}
 use Rattle.bus_types.specs.declared.limits.TheConstants.{MAX_WINDOW}
 use Rattle.bus_types.specs.Change.{Test, accepted, change_size, changes_size}
@@ -13,46 +14,86 @@ use Rattle.event_codec.specs.Bytes.{event_bytes, mark_bytes, changes_bytes, wind
 use Rattle.event_codec.specs.Streams.{windows_bytes}
 use Rattle.event_codec.specs.Writing.{accepted_bytes}
 use Rattle.event_codec.proofs.EventBytes.{event_length}
-use Rattle.event_codec.proofs.Windows.{window_length}
+use Rattle.event_codec.proofs.WindowBytes.{window_length}
 use Rattle.event_codec.proofs.Cuts.{cut_no_larger}
 use Rattle.event_codec.proofs.Writing.{accepted_more}
 use Rattle.bus_io.specs.declared.write.WriteFault.{WriteFault}
-use Rattle.plain_buffer.specs.Send.{Sends}
+use Rattle.bus_io.specs.Bytes.{RoomLeft}
+use Rattle.plain_buffer.specs.Send.{Told, Sends}
+
+-- ---- room
+
+pub room_same : (room : Option ℕ) → RoomLeft room room 0
+room_same None = tt
+room_same (Some n) = omega arith
+
+-- what two parts took
+room_then : (a b c : Option ℕ) (first second both : ℕ) → both ≡ first + second → RoomLeft a b first → RoomLeft b c second → RoomLeft a c both
+room_then None b c first second both e f g = tt
+room_then (Some n) None c first second both e f g = absurd f
+room_then (Some n) (Some m) None first second both e f g = absurd g
+room_then (Some n) (Some m) (Some k) first second both e f g = omega (arith, f, g)
+
+-- room that a later part lacks
+room_lacks : (a b : Option ℕ) (first second both : ℕ) → both ≡ first + second → RoomLeft a b first → IfSome b (λ room. room < second) → IfSome a (λ room. room < both)
+room_lacks None b first second both e f g = tt
+room_lacks (Some n) None first second both e f g = absurd f
+room_lacks (Some n) (Some m) first second both e f g = omega (arith, f, g)
+
+-- room that a front lacks
+room_front : (a : Option ℕ) (first both : ℕ) → first ≤ both → IfSome a (λ room. room < first) → IfSome a (λ room. room < both)
+room_front None first both le h = tt
+room_front (Some n) first both le h = omega (arith, h)
+
+-- ---- parts
 
 -- nothing is sent at once
-pub sends_none : (bytes : Option (List ℕ)) (done : ℕ) → Sends bytes bytes done (Ok done) []
-sends_none bytes done = (omega arith, Appends-nil bytes)
+pub sends_none : (o : Told) (done : ℕ) → Sends o o done (Ok done) []
+sends_none o done = (omega arith, Appends-nil o.written, room_same o.room)
 
 -- a fault in the first of two parts
-pub sends_stop : (a b : Option (List ℕ)) (done : ℕ) (fault : WriteFault) (first second : List ℕ) → Sends a b done (Err fault) first → Sends a b done (Err fault) (first ++ second)
-sends_stop a b done fault first second s =
-    (s.0, s.1, omega (arith, s.2, length-append first second), subst (Appends a b) (sym (take-append-le s.0 first second (omega (arith, s.2)))) s.3)
+pub sends_stop : (a b : Told) (done : ℕ) (fault : WriteFault) (first second : List ℕ) → Sends a b done (Err fault) first → Sends a b done (Err fault) (first ++ second)
+sends_stop a b done fault first second s = (
+  s.0,
+  s.1,
+  omega (arith, s.2, length-append first second),
+  subst (Appends a.written b.written) (sym (take-append-le s.0 first second (omega (arith, s.2)))) s.3,
+  room_front a.room (length first) (length (first ++ second)) (omega (arith, length-append first second)) s.4,
+)
 
 -- two parts, of which the first was sent
-pub sends_then : (a b c : Option (List ℕ)) (done next : ℕ) (result : Result ℕ WriteFault) (first second : List ℕ) → Sends a b done (Ok next) first → Sends b c next result second → Sends a c done result (first ++ second)
-sends_then a b c done next (Ok now) first second s t =
-    (omega (arith, s.0, t.0, length-append first second), Appends-trans a b c first second s.1 t.1)
-sends_then a b c done next (Err fault) first second s t =
-    (length first + t.0, omega (arith, s.0, t.1), omega (arith, t.2, length-append first second), subst (Appends a c) (sym (take-append-add first second t.0)) (Appends-trans a b c first (take t.0 second) s.1 t.3))
+pub sends_then : (a b c : Told) (done next : ℕ) (result : Result ℕ WriteFault) (first second : List ℕ) → Sends a b done (Ok next) first → Sends b c next result second → Sends a c done result (first ++ second)
+sends_then a b c done next (Ok now) first second s t = (
+  omega (arith, s.0, t.0, length-append first second),
+  Appends-trans a.written b.written c.written first second s.1 t.1,
+  room_then a.room b.room c.room (length first) (length second) (length (first ++ second)) (length-append first second) s.2 t.2,
+)
+sends_then a b c done next (Err fault) first second s t = (
+  length first + t.0,
+  omega (arith, s.0, t.1),
+  omega (arith, t.2, length-append first second),
+  subst (Appends a.written c.written) (sym (take-append-add first second t.0)) (Appends-trans a.written b.written c.written first (take t.0 second) s.1 t.3),
+  room_lacks a.room b.room (length first) (length second) (length (first ++ second)) (length-append first second) s.2 t.4,
+)
 
 -- ---- a text of which a part is still to send
 
 -- what is left to send, sent from here on, is all, sent from the start on
-abbrev pub Awaits : Option (List ℕ) → ℕ → List ℕ → Option (List ℕ) → ℕ → List ℕ → Type 0
-Awaits start first all now done left = (new : Option (List ℕ)) (result : Result ℕ WriteFault) → Sends now new done result left → Sends start new first result all
+abbrev pub Awaits : Told → ℕ → List ℕ → Told → ℕ → List ℕ → Type 0
+Awaits start first all now done left = (new : Told) (result : Result ℕ WriteFault) → Sends now new done result left → Sends start new first result all
 
 -- a part of it was sent
-pub awaits_more : (start : Option (List ℕ)) (first : ℕ) (all : List ℕ) (a b : Option (List ℕ)) (done next : ℕ) (left part rest : List ℕ) → left ≡ part ++ rest → Awaits start first all a done left → Sends a b done (Ok next) part → Awaits start first all b next rest
+pub awaits_more : (start : Told) (first : ℕ) (all : List ℕ) (a b : Told) (done next : ℕ) (left part rest : List ℕ) → left ≡ part ++ rest → Awaits start first all a done left → Sends a b done (Ok next) part → Awaits start first all b next rest
 awaits_more start first all a b done next left part rest e awaits sent new result last =
     awaits new result (subst (Sends a new done result) (sym e) (sends_then a b new done next result part rest sent last))
 
 -- a part of it was begun
-pub awaits_stop : (start : Option (List ℕ)) (first : ℕ) (all : List ℕ) (a b : Option (List ℕ)) (done : ℕ) (fault : WriteFault) (left part rest : List ℕ) → left ≡ part ++ rest → Awaits start first all a done left → Sends a b done (Err fault) part → Sends start b first (Err fault) all
+pub awaits_stop : (start : Told) (first : ℕ) (all : List ℕ) (a b : Told) (done : ℕ) (fault : WriteFault) (left part rest : List ℕ) → left ≡ part ++ rest → Awaits start first all a done left → Sends a b done (Err fault) part → Sends start b first (Err fault) all
 awaits_stop start first all a b done fault left part rest e awaits sent =
     awaits b (Err fault) (subst (Sends a b done (Err fault)) (sym e) (sends_stop a b done fault part rest sent))
 
 -- nothing is left
-pub awaits_end : (start : Option (List ℕ)) (first : ℕ) (all : List ℕ) (now : Option (List ℕ)) (done : ℕ) (left : List ℕ) → left ≡ [] → Awaits start first all now done left → Sends start now first (Ok done) all
+pub awaits_end : (start : Told) (first : ℕ) (all : List ℕ) (now : Told) (done : ℕ) (left : List ℕ) → left ≡ [] → Awaits start first all now done left → Sends start now first (Ok done) all
 awaits_end start first all now done left none awaits = awaits now (Ok done) (subst (Sends now now done (Ok done)) (sym none) (sends_none now done))
 
 -- ---- the events of changes

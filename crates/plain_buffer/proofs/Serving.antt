@@ -3,6 +3,7 @@ use Rattle.std.proofs.Common.{◌≡◌, ℕ, ◌+◌, ◌<◌, ◌≤◌, nat_l
 use Rattle.std.proofs.lemmas.Bool.{cond-true, cond-false, lt-ltb, le-ltb}
 use Rattle.std.proofs.lemmas.List.{drop_more, length-map}
 use Rattle.std.specs.Io.KnownBytes.{Appends}
+use Rattle.std.specs.Prelude.{IfSome}
 use Rattle.bus_io.specs.declared.write.WriteFault.{WriteFault}
 use Rattle.bus_types.specs.Change.{Test}
 use Rattle.bus_types.specs.Window.{Span}
@@ -13,7 +14,7 @@ use Rattle.bus_types.proofs.Runs.{run_takes, longest_run_is}
 use Rattle.event_codec.specs.Streams.{windows_bytes}
 use Rattle.event_codec.specs.Reply.{AreTold, windows_sent}
 use Rattle.plain_buffer.specs.Run.{Tells}
-use Rattle.plain_buffer.specs.Send.{Sends}
+use Rattle.plain_buffer.specs.Send.{Told, Sends}
 
 first_is : (ws : List Span) (from : ℕ) (w : Span) → from < length ws → w ≡ get_or ws from w → drop from ws ≡ w ∷ drop (from + 1) ws
 first_is ws from w lt is = drop_more ws from w lt ∙ ap (λ (v : Span). v ∷ drop (from + 1) ws) (sym is)
@@ -59,8 +60,17 @@ pub run_bytes : (test : Test) (ws : List Span) (from max number scn size : ℕ) 
 run_bytes test ws from max number scn size s = ap windows_bytes s.front ∙ ap windows_sent (sym s.answer)
 
 -- what went out before a fault
-pub sent_part : (old new : Option (List ℕ)) (fault : WriteFault) (text all : List ℕ) → text ≡ all → Sends old new 0 (Err fault) text → Appends old new (take fault.written all) × (fault.written < length all)
+pub record Broken (old new : Told) (fault : WriteFault) (all : List ℕ) : Type 0 where
+  pub part : Appends old.written new.written (take fault.written all)
+  pub short : fault.written < length all
+  pub full : IfSome old.room (λ room. room < length all)
+
+pub sent_part : (old new : Told) (fault : WriteFault) (text all : List ℕ) → text ≡ all → Sends old new 0 (Err fault) text → Broken old new fault all
 sent_part old new fault text all e s =
     let n : s.0 ≡ fault.written = omega (arith, s.1) in
     let long = ap (λ (bytes : List ℕ). length bytes) e in
-    (subst (λ m. Appends old new (take m all)) n (subst (λ (bytes : List ℕ). Appends old new (take s.0 bytes)) e s.3), omega (arith, s.1, s.2))
+    record {
+      part = subst (λ m. Appends old.written new.written (take m all)) n (subst (λ (bytes : List ℕ). Appends old.written new.written (take s.0 bytes)) e s.3);
+      short = omega (arith, s.1, s.2);
+      full = subst (λ (bytes : List ℕ). IfSome old.room (λ room. room < length bytes)) e s.4;
+    }

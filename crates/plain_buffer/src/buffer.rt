@@ -1,10 +1,11 @@
-ghost use Rattle.std.specs.Prelude.{◌≡◌, ◌≤◌, ◌<◌, ◌+◌, ◌∷◌, [], List, length, take, drop, IfOk, IfErr, OnOk, OnErr};
+ghost use Rattle.std.specs.Prelude.{◌≡◌, ◌≤◌, ◌<◌, ◌+◌, ◌∷◌, [], List, length, take, drop, IfOk, IfErr, IfSome, OnOk, OnErr};
 ghost use Rattle.std.specs.Io.KnownBytes.{Appends};
+ghost use Rattle.bus_io.specs.Bytes.{RoomLeft};
 ghost use Rattle.bus_types.specs.Causes.{HasCause};
 ghost use Rattle.bus_types.specs.Cut.{cuts};
 ghost use Rattle.bus_types.specs.Window.{Span};
 ghost use Rattle.bus_types.specs.Timeline.{windows_between};
-ghost use Rattle.bus_types.specs.Relay.{fitting, new_relay, published, answer_of, StandsFor};
+ghost use Rattle.bus_types.specs.Relay.{fitting, new_relay, published, answer_of, stream, StandsFor};
 ghost use Rattle.event_codec.specs.Reply.{IsServed, IsInRange, windows_sent};
 
 use crate::kept::Kept;
@@ -98,7 +99,8 @@ impl PlainBuffer {
 
     /// Answers a consumer that asks for what a filter leaves of the windows after `scn`, in at most `max` bytes, and
     /// sends the windows of the answer, if it has any: their accepted events, each window with its end-of-period mark.
-    /// It takes no memory. After a fault the sink has so many bytes of the windows as the fault tells.
+    /// It takes no memory. After a fault the sink has so many bytes of the windows as the fault tells, which are not all of
+    /// them; none comes where the sink has room for the windows.
     pub fn serve<F: Accepts, W: Sink>(
         &self,
         scn: u64,
@@ -108,9 +110,16 @@ impl PlainBuffer {
     ) -> Result<Served, WriteFault>
         ensures answer { IfOk result (λ s. IsServed s (answer_of self.now scn (F.test filter.now) max)) }
         ensures range { IfOk result IsInRange }
+
+        // Over each timeline that it stands for, the answer is the one by the rule of a relay.
+        ensures rule { IfOk result (λ s. (ws : List Span) → StandsFor ws self.now → IsServed s (stream ws self.now.floor self.now.tail scn (F.test filter.now) max)) }
         ensures written { OnOk result (Appends (W.written out.old) (W.written out.new) (windows_sent (answer_of self.now scn (F.test filter.now) max))) }
         ensures part { IfErr result (λ fault. Appends (W.written out.old) (W.written out.new) (take fault.written (windows_sent (answer_of self.now scn (F.test filter.now) max)))) }
         ensures short { IfErr result (λ fault. fault.written < length (windows_sent (answer_of self.now scn (F.test filter.now) max))) }
+        ensures full { OnErr result (IfSome (W.room out.old) (λ room. room < length (windows_sent (answer_of self.now scn (F.test filter.now) max)))) }
+        ensures room { OnOk result (RoomLeft (W.room out.old) (W.room out.new) (length (windows_sent (answer_of self.now scn (F.test filter.now) max)))) }
+        ensures risen { OnErr result (W.faults out.old < W.faults out.new) }
+        ensures beside { W.beside out.new ≡ W.beside out.old }
         ensures cause { HasCause (W.faults out.old) (W.faults out.new) result }
     {
         if scn < self.kept.floor {
@@ -138,6 +147,10 @@ fn serve_from<F: Accepts, W: Sink>(
     ensures written { OnOk result (Appends (W.written out.old) (W.written out.new) (windows_sent (fitting max (cuts (F.test filter.now) (drop from windows.now.items))))) }
     ensures part { IfErr result (λ fault. Appends (W.written out.old) (W.written out.new) (take fault.written (windows_sent (fitting max (cuts (F.test filter.now) (drop from windows.now.items)))))) }
     ensures short { IfErr result (λ fault. fault.written < length (windows_sent (fitting max (cuts (F.test filter.now) (drop from windows.now.items))))) }
+    ensures full { OnErr result (IfSome (W.room out.old) (λ room. room < length (windows_sent (fitting max (cuts (F.test filter.now) (drop from windows.now.items)))))) }
+    ensures room { OnOk result (RoomLeft (W.room out.old) (W.room out.new) (length (windows_sent (fitting max (cuts (F.test filter.now) (drop from windows.now.items)))))) }
+    ensures risen { OnErr result (W.faults out.old < W.faults out.new) }
+    ensures beside { W.beside out.new ≡ W.beside out.old }
     ensures cause { HasCause (W.faults out.old) (W.faults out.new) result }
 {
     let need = cut_size(&windows[from], filter);

@@ -10,6 +10,3 @@ mod send;
 
 pub use buffer::PlainBuffer;
 pub use event_codec::Served;
-
-#[cfg(test)]
-mod tests;

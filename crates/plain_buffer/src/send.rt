@@ -1,11 +1,11 @@
-ghost use Rattle.std.specs.Prelude.{◌≡◌, ◌+◌, ◌*◌, ◌≤◌, ◌<◌, ◌^◌, length, take, drop};
+ghost use Rattle.std.specs.Prelude.{◌≡◌, ◌+◌, ◌*◌, ◌≤◌, ◌<◌, ◌^◌, length, take, drop, OnErr};
 ghost use Rattle.bus_types.specs.Change.{accepted, change_size, changes_size};
 ghost use Rattle.bus_types.specs.Causes.{HasCause};
 ghost use Rattle.bus_types.specs.Cut.{cut, cuts};
 ghost use Rattle.event_codec.specs.Bytes.{event_bytes, changes_bytes, window_bytes};
 ghost use Rattle.event_codec.specs.Streams.{windows_bytes};
 ghost use Rattle.event_codec.specs.Writing.{accepted_bytes};
-ghost use Rattle.plain_buffer.specs.Send.{Sends};
+ghost use Rattle.plain_buffer.specs.Send.{told, Sends};
 
 use bus_io::{Sink, WriteFault, write_all};
 use bus_types::{Accepts, Change, MAX_WINDOW, Window};
@@ -17,7 +17,9 @@ use std::collections::VecDeque;
 
 fn send_bytes<W: Sink>(bytes: &[u8], done: u64, out: &mut W) -> Result<u64, WriteFault>
     requires { done + length bytes.now < 2 ^ 64 }
-    ensures sends { Sends (W.written out.old) (W.written out.new) done result bytes.now }
+    ensures sends { Sends (told (W.written out.old) (W.room out.old)) (told (W.written out.new) (W.room out.new)) done result bytes.now }
+    ensures risen { OnErr result (W.faults out.old < W.faults out.new) }
+    ensures beside { W.beside out.new ≡ W.beside out.old }
     ensures cause { HasCause (W.faults out.old) (W.faults out.new) result }
 {
     match write_all(out, bytes) {
@@ -31,7 +33,9 @@ fn send_bytes<W: Sink>(bytes: &[u8], done: u64, out: &mut W) -> Result<u64, Writ
 // The event of a change.
 fn send_event<W: Sink>(scn: u64, change: &Change, done: u64, out: &mut W) -> Result<u64, WriteFault>
     requires { done + change_size change.now < 2 ^ 64 }
-    ensures sends { Sends (W.written out.old) (W.written out.new) done result (event_bytes (record { scn = scn; change = change.now })) }
+    ensures sends { Sends (told (W.written out.old) (W.room out.old)) (told (W.written out.new) (W.room out.new)) done result (event_bytes (record { scn = scn; change = change.now })) }
+    ensures risen { OnErr result (W.faults out.old < W.faults out.new) }
+    ensures beside { W.beside out.new ≡ W.beside out.old }
     ensures cause { HasCause (W.faults out.old) (W.faults out.new) result }
 {
     let done = send_bytes(&event_head(scn, change), done, out)?;
@@ -50,7 +54,9 @@ fn send_accepted<F: Accepts, W: Sink>(
     out: &mut W,
 ) -> Result<u64, WriteFault>
     requires { done + change_size change.now < 2 ^ 64 }
-    ensures sends { Sends (W.written out.old) (W.written out.new) done result (accepted_bytes (F.test filter.now) scn change.now) }
+    ensures sends { Sends (told (W.written out.old) (W.room out.old)) (told (W.written out.new) (W.room out.new)) done result (accepted_bytes (F.test filter.now) scn change.now) }
+    ensures risen { OnErr result (W.faults out.old < W.faults out.new) }
+    ensures beside { W.beside out.new ≡ W.beside out.old }
     ensures cause { HasCause (W.faults out.old) (W.faults out.new) result }
 {
     if filter.accepts(change.source, &change.key) {
@@ -69,7 +75,9 @@ fn send_changes<F: Accepts, W: Sink>(
     out: &mut W,
 ) -> Result<u64, WriteFault>
     requires { done + changes_size changes.now < 2 ^ 64 }
-    ensures sends { Sends (W.written out.old) (W.written out.new) done result (changes_bytes scn (accepted (F.test filter.now) changes.now)) }
+    ensures sends { Sends (told (W.written out.old) (W.room out.old)) (told (W.written out.new) (W.room out.new)) done result (changes_bytes scn (accepted (F.test filter.now) changes.now)) }
+    ensures risen { OnErr result (W.faults out.old < W.faults out.new) }
+    ensures beside { W.beside out.new ≡ W.beside out.old }
     ensures cause { HasCause (W.faults out.old) (W.faults out.new) result }
 {
     let mut done = done;
@@ -87,8 +95,10 @@ fn send_window<F: Accepts, W: Sink>(
     out: &mut W,
 ) -> Result<u64, WriteFault>
     requires { done + MAX_WINDOW < 2 ^ 64 }
-    ensures sends { Sends (W.written out.old) (W.written out.new) done result (window_bytes (cut (F.test filter.now) window.now)) }
+    ensures sends { Sends (told (W.written out.old) (W.room out.old)) (told (W.written out.new) (W.room out.new)) done result (window_bytes (cut (F.test filter.now) window.now)) }
     ensures small { length (window_bytes (cut (F.test filter.now) window.now)) ≤ MAX_WINDOW }
+    ensures risen { OnErr result (W.faults out.old < W.faults out.new) }
+    ensures beside { W.beside out.new ≡ W.beside out.old }
     ensures cause { HasCause (W.faults out.old) (W.faults out.new) result }
 {
     let scn = window.scn();
@@ -105,7 +115,9 @@ pub(crate) fn send_windows<F: Accepts, W: Sink>(
     out: &mut W,
 ) -> Result<u64, WriteFault>
     requires { from + count ≤ length windows.now.items }
-    ensures sends { Sends (W.written out.old) (W.written out.new) 0 result (windows_bytes (cuts (F.test filter.now) (take count (drop from windows.now.items)))) }
+    ensures sends { Sends (told (W.written out.old) (W.room out.old)) (told (W.written out.new) (W.room out.new)) 0 result (windows_bytes (cuts (F.test filter.now) (take count (drop from windows.now.items)))) }
+    ensures risen { OnErr result (W.faults out.old < W.faults out.new) }
+    ensures beside { W.beside out.new ≡ W.beside out.old }
     ensures cause { HasCause (W.faults out.old) (W.faults out.new) result }
 {
     let mut done = 0;

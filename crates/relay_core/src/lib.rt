@@ -9,6 +9,3 @@ mod buffer;
 pub use answer::relay_answer;
 pub use buffer::Buffer;
 pub use event_codec::Served;
-
-#[cfg(test)]
-mod tests;

@@ -5,6 +5,3 @@
 mod source;
 
 pub use source::{CommitFault, SourceDb};
-
-#[cfg(test)]
-mod tests;

@@ -14,8 +14,8 @@ use Rattle.partition_filter.specs.Spelling.{keys_text, rule_text, filter_text, I
 use Rattle.partition_filter.specs.Grammar.{filter_of}
 use Rattle.partition_filter.proofs.RuleTexts.{is_rule_byte, rule_bytes}
 use Rattle.partition_filter.proofs.FilterTexts.{filter_taken, filter_again}
-use Rattle.trace_script.specs.Words.{selection_of}
-use Rattle.trace_script.proofs.WordTexts.{is_word_byte, IsWord, IsWord-append, IsWord-from_test}
+use Rattle.trace_script.specs.Words.{is_word_byte, selection_of}
+use Rattle.trace_script.proofs.WordTexts.{IsWord, IsWord-append, IsWord-from_test}
 
 -- ---- what is read
 

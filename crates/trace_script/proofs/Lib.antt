@@ -6,3 +6,4 @@ pub mod FilterTexts
 pub mod LineTexts
 pub mod LineLaws
 pub mod WrittenTexts
+pub mod CutLines

@@ -1,6 +1,6 @@
 -- The lines of an input that comes in pieces.
-use Rattle.std.proofs.Common.{◌≡◌, ℕ, ◌+◌, ◌<◌, ◌≤◌, Bool, true, false, cond, ◌||◌, nat_lt, nat_le, eqb, List, [], ◌∷◌, ◌++◌, length, refl, sym, ap, ◌∙◌, append_assoc, append-nil, arith}
-use Rattle.std.proofs.lemmas.Bool.{ltb-true, lt-ltb, ne_eqb}
+use Rattle.std.proofs.Common.{◌≡◌, ℕ, ◌+◌, ◌<◌, ◌≤◌, ◌↔◌, Bool, true, false, cond, ◌||◌, nat_lt, nat_le, eqb, List, [], ◌∷◌, ◌++◌, length, refl, sym, ap, ◌∙◌, append_assoc, append-nil, arith}
+use Rattle.std.proofs.lemmas.Bool.{ltb-true, ltb-false, leb-false, lt-ltb, le-ltb, lt-leb, or_parts, or_from, ne_eqb}
 use Rattle.std.proofs.lemmas.List.{length-append}
 use Rattle.trace_script.specs.Input.{RawLine, lines_from, lines_of, IsPart, IsWhole, has_end, whole_part, most_lines, longest_line, longest_input, is_too_long}
 
@@ -122,3 +122,21 @@ whole_part-append (b ∷ bs) part w p =
 pub IsPart-append : (xs ys : List ℕ) → IsPart xs → IsPart ys → IsPart (xs ++ ys)
 IsPart-append [] ys p q = q
 IsPart-append (x ∷ xs) ys p q = (p.0, IsPart-append xs ys p.1 q)
+
+-- ---- the limits
+
+-- a line is within the limits of an input exactly so
+pub within_limits : (count used : ℕ) (line : RawLine) → (is_too_long count used line ≡ false) ↔ ((count < 1000000) × (length line.text ≤ 4194304) × (used + line.size ≤ 16777216))
+within_limits count used line =
+    let lines = nat_le most_lines count in
+    let text = nat_lt longest_line (length line.text) in
+    let input = nat_lt longest_input (used + line.size) in (
+      λ within.
+          let last = or_parts (lines || text) input within in
+          let first = or_parts lines text last.0 in
+          (leb-false most_lines count first.0, ltb-false longest_line (length line.text) first.1, ltb-false longest_input (used + line.size) last.1),
+      λ within.
+          or_from (lines || text) input
+          (or_from lines text (lt-leb most_lines count within.0) (le-ltb longest_line (length line.text) within.1))
+          (le-ltb longest_input (used + line.size) within.2),
+    )

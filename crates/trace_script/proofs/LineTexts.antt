@@ -1,8 +1,8 @@
 -- Lines and their texts.
-use Rattle.std.proofs.Common.{◌≡◌, ℕ, ◌^◌, ◌<◌, ◌≤◌, Bool, true, false, if◌then◌else◌, ◌==◌, inl, inr, nat_le, List, [], ◌∷◌, length, map, codes, Option, Some, None, Result, Ok, Err, refl, sym, ap, ◌∙◌, arith, lit<}
+use Rattle.std.proofs.Common.{◌≡◌, ℕ, ◌^◌, ◌<◌, ◌≤◌, Bool, true, false, not, if◌then◌else◌, ◌==◌, inl, inr, nat_le, List, [], ◌∷◌, length, map, codes, Option, Some, None, Result, Ok, Err, refl, sym, ap, ◌∙◌, arith, lit<}
 use Rattle.std.specs.Prelude.{decimal, bytes_eq, IfOk, IsErrOf}
-use Rattle.std.specs.List.{list_any, AllByRecursion, join_with_byte}
-use Rattle.std.proofs.lemmas.Bool.{leb-true, le-leb, ne_eqb}
+use Rattle.std.specs.List.{list_all, list_any, AllByRecursion, join_with_byte}
+use Rattle.std.proofs.lemmas.Bool.{and_parts, and_from, not_from_false, cases_Bool, leb-true, le-leb, ne_eqb}
 use Rattle.std.proofs.lemmas.Bool.Decides.{nat_tests}
 use Rattle.std.proofs.lemmas.Fmt.{decimal_nonempty}
 use Rattle.std.proofs.lemmas.List.{length-append, length-map}
@@ -19,7 +19,7 @@ use Rattle.bus_types.specs.declared.limits.TheConstants.{MAX_SCN}
 use Rattle.bus_types.specs.Text.{number_of, max_u64}
 use Rattle.partition_filter.specs.Selection.{Selection}
 use Rattle.partition_filter.specs.Spelling.{IsFilter, filter_text}
-use Rattle.trace_script.specs.Words.{words_of, number_in, is_name_text, name_of, selection_of, changes_of}
+use Rattle.trace_script.specs.Words.{words_of, is_line_byte, may_be_words, number_in, is_name_text, name_of, selection_of, changes_of}
 use Rattle.trace_script.specs.Lines.{is_blank, relay_of, consumer_of, commit_of, feed_of, poll_of, show_of, crash_of, when_of, stop_of, stream_of, log_of, apply_of, trim_of, restart_of, words_line, line_of}
 use Rattle.trace_script.specs.Spelling.{IsName, IsRoom, IsCount, IsLine, Spells, change_text, when_text, line_words}
 use Rattle.trace_script.specs.Reading.{Reads}
@@ -27,7 +27,7 @@ use Rattle.bus_types.proofs.Options.{bind_some, chosen}
 use Rattle.bus_types.proofs.Numbers.{number_taken, number_again}
 use Rattle.trace_script.proofs.ChangeTexts.{changes_taken, changes_again}
 use Rattle.trace_script.proofs.FilterTexts.{selection_taken, selection_again, IsWord-filter, filter_nonempty}
-use Rattle.trace_script.proofs.WordTexts.{IsWord, words_again, no_return, IsWord-decimal, IsWord-name, words-changes}
+use Rattle.trace_script.proofs.WordTexts.{IsWord, words_again, line_bytes, no_return_there, no_return, IsWord-decimal, IsWord-name, words-changes}
 
 -- ---- what is read is spelled so
 
@@ -321,30 +321,6 @@ are_full (Apply count) h = rw (is_full-decimal count (omega arith)) refl
 are_full (Trim scn) h = rw (is_full-decimal scn (omega arith)) refl
 are_full RestartBoot h = refl
 
-taken_full : (words : List (List ℕ)) (line : Line) → HasWords words line → has_empty words ≡ false
-taken_full words Blank h = absurd h
-taken_full words (Relay bytes windows) h = rw h.1 (are_full (Relay bytes windows) h.0)
-taken_full words (Consumer name filter) h = rw h.1 (are_full (Consumer name filter) h.0)
-taken_full words (Commit scn changes) h = rw h.1 (are_full (Commit scn changes) h.0)
-taken_full words (Feed count) h = rw h.1 (are_full (Feed count) h.0)
-taken_full words (Poll name max) h = rw h.1 (are_full (Poll name max) h.0)
-taken_full words (Show name) h = rw h.1 (are_full (Show name) h.0)
-taken_full words (Crash name) h = rw h.1 (are_full (Crash name) h.0)
-taken_full words (Stop name after) h = rw h.1 (are_full (Stop name after) h.0)
-taken_full words (Stream scn filter max) h = rw h.1 (are_full (Stream scn filter max) h.0)
-taken_full words (Log count) h = rw h.1 (are_full (Log count) h.0)
-taken_full words (Apply count) h = rw h.1 (are_full (Apply count) h.0)
-taken_full words (Trim scn) h = rw h.1 (are_full (Trim scn) h.0)
-taken_full words RestartBoot h = rw h.1 refl
-
-none_taken : (read : Option Line) → ((line : Line) → read ≡ Some line → ⊥) → read ≡ None
-none_taken None h = refl
-none_taken (Some line) h = absurd (h line refl)
-
--- such words are no line
-pub no_line : (words : List (List ℕ)) → list_any (λ word. length word == 0) words ≡ true → words_line words ≡ None
-no_line words empty = none_taken (words_line words) (λ line read. cc (empty, taken_full words line (words_taken words line read)))
-
 -- ---- what is spelled so is read
 
 IsWord-when : (after : Bool) → IsWord (when_text after)
@@ -366,6 +342,48 @@ words_are (Log count) h = (refl, (IsWord-decimal count (omega arith), tt))
 words_are (Apply count) h = (refl, (IsWord-decimal count (omega arith), tt))
 words_are (Trim scn) h = (refl, (IsWord-decimal scn (omega arith), tt))
 words_are RestartBoot h = (refl, (refl, tt))
+
+-- words of a line are its words
+words_are_its : (words : List (List ℕ)) (line : Line) → HasWords words line → IsLine line × (words ≡ line_words line)
+words_are_its words Blank h = absurd h
+words_are_its words (Relay bytes windows) h = h
+words_are_its words (Consumer name filter) h = h
+words_are_its words (Commit scn changes) h = h
+words_are_its words (Feed count) h = h
+words_are_its words (Poll name max) h = h
+words_are_its words (Show name) h = h
+words_are_its words (Crash name) h = h
+words_are_its words (Stop name after) h = h
+words_are_its words (Stream scn filter max) h = h
+words_are_its words (Log count) h = h
+words_are_its words (Apply count) h = h
+words_are_its words (Trim scn) h = h
+words_are_its words RestartBoot h = h
+
+none_taken : (read : Option Line) → ((line : Line) → read ≡ Some line → ⊥) → read ≡ None
+none_taken None h = refl
+none_taken (Some line) h = absurd (h line refl)
+
+-- a text that can't be words is no line
+no_words : (text : List ℕ) → may_be_words text ≡ false → words_line (words_of text) ≡ None
+no_words text bad = none_taken (words_line (words_of text)) (λ line read.
+    let its = words_are_its (words_of text) line (words_taken (words_of text) line read) in
+    let full : has_empty (words_of text) ≡ false = rw its.1 (are_full line its.0) in
+    let bytes : list_all is_line_byte text ≡ true = rw (joined text (line_words line) its.1) (line_bytes (line_words line) (words_are line its.0)) in
+    cc (bad, and_from (list_all is_line_byte text) (not (has_empty (words_of text))) bytes (not_from_false (has_empty (words_of text)) full)))
+
+pub no_line : (text : List ℕ) → is_blank text ≡ false → may_be_words text ≡ false → line_of text ≡ None
+unfolding line_of
+no_line text full bad =
+    elim (cases_Bool (list_any (λ b. b == 13) text)) [
+      | inl return ↦ rw return refl
+      | inr none ↦ rw (none, full) (no_words text bad)
+    ]
+
+-- any other is the line of its words
+pub line_of_words : (text : List ℕ) → is_blank text ≡ false → may_be_words text ≡ true → line_of text ≡ words_line (words_of text)
+unfolding line_of
+line_of_words text full may = rw (no_return_there text (and_parts (list_all is_line_byte text) (not (has_empty (words_of text))) may).0, full) refl
 
 from_words : (word : List ℕ) (words : List (List ℕ)) (line : Line) → AllByRecursion IsWord (word ∷ words)
     → is_blank (join_with_byte 32 (word ∷ words)) ≡ false → words_line (word ∷ words) ≡ Some line → line_of (join_with_byte 32 (word ∷ words)) ≡ Some line

@@ -1,10 +1,10 @@
 -- Words, and texts of words with one space between two.
-use Rattle.std.proofs.Common.{◌≡◌, ℕ, ◌^◌, ◌<◌, Bool, true, false, not, ◌||◌, ◌&&◌, ◌==◌, nat_le, List, [], ◌∷◌, ◌++◌, length, map, codes, Option, Some, None, refl, ap, ◌∙◌, arith}
+use Rattle.std.proofs.Common.{◌≡◌, ℕ, ◌^◌, ◌<◌, Bool, true, false, ◌&&◌, ◌==◌, nat_le, List, [], ◌∷◌, ◌++◌, length, map, codes, Option, Some, None, refl, ap, ◌∙◌, arith}
 use Rattle.std.specs.Prelude.{decimal}
 use Rattle.std.specs.List.{list_all, list_any, AllByRecursion, join_with_byte}
-use Rattle.std.proofs.lemmas.Bool.{and_parts, and_from}
+use Rattle.std.proofs.lemmas.Bool.{and_parts, and_from, or_right}
 use Rattle.std.proofs.lemmas.Bool.Decides.{nat_tests}
-use Rattle.std.proofs.lemmas.List.Folds.{list_all-append, list_any-append}
+use Rattle.std.proofs.lemmas.List.Folds.{list_all-append}
 use Rattle.std.proofs.lemmas.List.Splits.{slice_split_none, slice_split_at}
 use Rattle.hex.specs.Hex.{encode_lower}
 use Rattle.bus_types.specs.declared.change.Key.{Key}
@@ -12,15 +12,11 @@ use Rattle.bus_types.specs.declared.change.Key.TheVariants.{Long}
 use Rattle.bus_types.specs.declared.change.Change.{Change}
 use Rattle.bus_types.specs.Change.{IsKey, IsChange, AreChanges, key_text}
 use Rattle.bus_types.specs.Text.{is_digit}
-use Rattle.trace_script.specs.Words.{words_of, is_lower_hex, is_name_byte, is_name_text}
+use Rattle.trace_script.specs.Words.{words_of, is_word_byte, is_line_byte, is_lower_hex, is_name_byte, is_name_text}
 use Rattle.trace_script.specs.Spelling.{put_text, change_text, AreBytesOf}
 use Rattle.bus_types.proofs.Cuts.{Lacks-from_test}
 use Rattle.trace_script.proofs.HexText.{all_lower-encode_lower}
 use Rattle.bus_types.proofs.Numbers.{all_digits-decimal}
-
--- neither a space nor a CR
-abbrev pub is_word_byte : ℕ → Bool
-is_word_byte b = not (b == 32 || b == 13)
 
 abbrev pub IsWord : List ℕ → Type 0
 IsWord word = list_all is_word_byte word ≡ true
@@ -33,22 +29,35 @@ words_again word (next ∷ words) h =
     slice_split_at (λ b. b == 32) word 32 (join_with_byte 32 (next ∷ words)) (Lacks-from_test is_word_byte 32 word refl h.0) refl
     ∙ ap (λ (ws : List (List ℕ)). word ∷ ws) (words_again next words h.1)
 
-no_return_in : (word : List ℕ) → IsWord word → list_any (λ b. b == 13) word ≡ false
-no_return_in [] h = refl
-no_return_in (b ∷ bs) h =
+line_bytes_in : (word : List ℕ) → IsWord word → list_all is_line_byte word ≡ true
+line_bytes_in [] h = refl
+line_bytes_in (b ∷ bs) h =
     let parts = and_parts (is_word_byte b) (list_all is_word_byte bs) h in
-    let other : (b == 13) ≡ false = grind (arith, nat_tests) in
-    rw other (no_return_in bs parts.1)
+    and_from (is_line_byte b) (list_all is_line_byte bs) (or_right (b == 32) (is_word_byte b) parts.0) (line_bytes_in bs parts.1)
+
+pub line_bytes : (words : List (List ℕ)) → AllByRecursion IsWord words → list_all is_line_byte (join_with_byte 32 words) ≡ true
+line_bytes [] h = refl
+line_bytes (word ∷ []) h = line_bytes_in word h.0
+line_bytes (word ∷ next ∷ words) h =
+    list_all-append is_line_byte word (32 ∷ join_with_byte 32 (next ∷ words))
+    ∙ and_from (list_all is_line_byte word) (list_all is_line_byte (join_with_byte 32 (next ∷ words))) (line_bytes_in word h.0) (line_bytes (next ∷ words) h.1)
+
+-- none of them is a CR
+pub no_return_byte : (b : ℕ) → is_line_byte b ≡ true → (b == 13) ≡ false
+no_return_byte b h = grind (arith, nat_tests)
+
+pub no_return_there : (text : List ℕ) → list_all is_line_byte text ≡ true → list_any (λ b. b == 13) text ≡ false
+no_return_there [] h = refl
+no_return_there (b ∷ bs) h =
+    let parts = and_parts (is_line_byte b) (list_all is_line_byte bs) h in
+    rw (no_return_byte b parts.0) (no_return_there bs parts.1)
 
 pub no_return : (words : List (List ℕ)) → AllByRecursion IsWord words → list_any (λ b. b == 13) (join_with_byte 32 words) ≡ false
-no_return [] h = refl
-no_return (word ∷ []) h = no_return_in word h.0
-no_return (word ∷ next ∷ words) h =
-    list_any-append (λ b. b == 13) word (32 ∷ join_with_byte 32 (next ∷ words)) ∙ rw (no_return_in word h.0) (no_return (next ∷ words) h.1)
+no_return words h = no_return_there (join_with_byte 32 words) (line_bytes words h)
 
 -- ---- words
 
--- bytes that pass a test that no space and no CR passes
+-- bytes that pass a test that only bytes of words pass
 pub IsWord-from_test : (test : ℕ → Bool) → ((b : ℕ) → test b ≡ true → is_word_byte b ≡ true) → (bytes : List ℕ) → list_all test bytes ≡ true → IsWord bytes
 IsWord-from_test test each [] all = refl
 IsWord-from_test test each (b ∷ bs) all =

@@ -64,7 +64,7 @@ pub read_back : (line : Line) → IsLine line → line_of (line_text line) ≡ S
 read_back line h = line_again (line_text line) line (spelled line h)
 
 -- what a text spells is in range
-pub in_range : (text : List ℕ) (line : Line) → Spells text line → IsInRange line
+in_range : (text : List ℕ) (line : Line) → Spells text line → IsInRange line
 in_range text Blank h = tt
 in_range text (Relay bytes windows) h = h.0
 in_range text (Consumer name filter) h = tt
@@ -79,10 +79,6 @@ in_range text (Log count) h = h.0
 in_range text (Apply count) h = h.0
 in_range text (Trim scn) h = h.0
 in_range text RestartBoot h = tt
-
-pub all_in_range : (result : Result Line LineFault) (text : List ℕ) → Reads (λ line. line) result (line_of text) → IfOk result IsInRange
-all_in_range (Ok line) text h = in_range text line (line_taken text line h)
-all_in_range (Err fault) text h = tt
 
 -- ---- the ranges as tests
 
@@ -123,7 +119,7 @@ most_test max h = rw (le-leb 1 max h.0, le-leb max 16777216 h.1) refl
 room_test : (bytes windows : ℕ) → IsRoom bytes windows → is_room bytes windows ≡ true
 room_test bytes windows h = rw (le-leb 1048576 bytes h.0, le-leb bytes 268435456 h.1, le-leb 1 windows h.2, le-leb windows 65536 h.3) refl
 
-pub range_test : (line : Line) → IsInRange line → is_in_range line ≡ true
+range_test : (line : Line) → IsInRange line → is_in_range line ≡ true
 range_test Blank h = refl
 range_test (Relay bytes windows) h = room_test bytes windows h
 range_test (Consumer name filter) h = refl
@@ -138,3 +134,7 @@ range_test (Log count) h = count_test count h
 range_test (Apply count) h = count_test count h
 range_test (Trim scn) h = le-leb scn MAX_SCN h
 range_test RestartBoot h = refl
+
+pub all_in_range : (result : Result Line LineFault) (text : List ℕ) → Reads (λ line. line) result (line_of text) → IfOk result (λ line. is_in_range line ≡ true)
+all_in_range (Ok line) text h = range_test line (in_range text line (line_taken text line h))
+all_in_range (Err fault) text h = tt

@@ -4,3 +4,4 @@ pub mod Lines
 pub mod Spelling
 pub mod Reading
 pub mod Input
+pub mod Cutting

@@ -1,7 +1,7 @@
 -- The words of a line: numbers, names, filters, changes.
-use Rattle.std.specs.Prelude.{ℕ, Bool, if◌then◌else◌, ◌==◌, ◌||◌, ◌&&◌, nat_le, List, [], ◌∷◌, length, Option, Some, None, option_map}
+use Rattle.std.specs.Prelude.{ℕ, Bool, not, if◌then◌else◌, ◌==◌, ◌||◌, ◌&&◌, nat_le, List, [], ◌∷◌, length, Option, Some, None, option_map}
 use Rattle.std.specs.Result.{result_ok}
-use Rattle.std.specs.List.{list_all, slice_split}
+use Rattle.std.specs.List.{list_all, list_any, slice_split}
 use Rattle.hex.specs.Hex.{decode_of}
 use Rattle.bus_types.specs.declared.change.Key.{Key}
 use Rattle.bus_types.specs.declared.change.Key.TheVariants.{Long}
@@ -31,6 +31,20 @@ is_name_text bytes = nat_le 1 (length bytes) && nat_le (length bytes) 16 && list
 
 unfoldable pub name_of : List ℕ → Option (List ℕ)
 name_of bytes = if is_name_text bytes then Some bytes else None
+
+-- ---- the bytes of words
+
+-- a byte that words have: of a name, a number or a small letter, or one of `/`, `=`, `-`, `%`, `:`, `,`, `;` and `*`
+abbrev pub is_word_byte : ℕ → Bool
+is_word_byte b = is_name_byte b || b == 47 || b == 61 || b == 45 || b == 37 || b == 58 || b == 44 || b == 59 || b == 42
+
+-- a space, or a byte that words have
+abbrev pub is_line_byte : ℕ → Bool
+is_line_byte b = b == 32 || is_word_byte b
+
+-- whether the bytes of a text may be those of words, and no word is empty
+abbrev pub may_be_words : List ℕ → Bool
+may_be_words text = list_all is_line_byte text && not (list_any (λ word. length word == 0) (words_of text))
 
 -- ---- filters
 

@@ -1,4 +1,5 @@
 ghost use Rattle.std.specs.Prelude.{◌≡◌};
+ghost use Rattle.trace_script.specs.declared.fault.CutFault.TheVariants as cuts;
 ghost use Rattle.trace_script.specs.declared.fault.LineFault.TheVariants as faults;
 
 use bus_types::NoMemory as OutOfMemory;
@@ -34,5 +35,22 @@ impl From<OutOfMemory> for LineFault {
 
     fn from(_: OutOfMemory) -> Self {
         LineFault::NoMemory
+    }
+}
+
+/// Why an input was not cut into lines any further.
+#[derive(Clone, Copy, Debug, PartialEq, Eq)]
+pub enum CutFault {
+    /// The line of this number, counted from 1, is too long.
+    TooLong(u64),
+    /// Memory ran out.
+    NoMemory,
+}
+
+impl From<AllocError> for CutFault {
+    ghost from_gives = { λ _ e. e ≡ cuts.NoMemory };
+
+    fn from(_: AllocError) -> Self {
+        CutFault::NoMemory
     }
 }

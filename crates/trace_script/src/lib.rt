@@ -4,17 +4,18 @@
 #![tactic(auto)]
 
 mod change;
+mod cutting;
 mod fault;
+mod laws;
 mod line;
 mod name;
 mod reading;
 mod writing;
 
-pub use fault::LineFault;
+pub use cutting::LineCutter;
+pub use fault::{CutFault, LineFault};
+pub use laws::{the_limits_of_inputs, the_limits_of_lines, worked_lines};
 pub use line::Line;
 pub use name::Name;
 pub use reading::read_line;
 pub use writing::write_line;
-
-#[cfg(test)]
-mod tests;

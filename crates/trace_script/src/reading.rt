@@ -1,9 +1,9 @@
-ghost use Rattle.std.specs.Prelude.{◌≡◌, ◌==◌, ◌≤◌, ◌∷◌, false, bytes_eq, codes, length, IfOk, IfSome, IsErrOf, map};
-ghost use Rattle.std.specs.List.{list_any};
+ghost use Rattle.std.specs.Prelude.{◌≡◌, ◌==◌, ◌≤◌, ◌∷◌, true, false, bytes_eq, codes, length, IfOk, IfSome, IsErrOf, map};
+ghost use Rattle.std.specs.List.{list_all, list_any};
 ghost use Rattle.trace_script.specs.Reading.{Reads};
 ghost use Rattle.trace_script.specs.declared.line.Line.{Line};
-ghost use Rattle.trace_script.specs.Spelling.{IsInRange, Spells};
-ghost use Rattle.trace_script.specs.Words.{words_of, number_in, name_of, selection_of};
+ghost use Rattle.trace_script.specs.Spelling.{is_in_range, Spells};
+ghost use Rattle.trace_script.specs.Words.{is_line_byte, may_be_words, words_of, number_in, name_of, selection_of};
 ghost use Rattle.trace_script.specs.Lines.{is_blank, relay_of, consumer_of, commit_of, feed_of, poll_of, show_of, crash_of, when_of, stop_of, stream_of, log_of, apply_of, trim_of, restart_of, words_line, line_of};
 
 use crate::change::changes;
@@ -14,33 +14,76 @@ use bus_types::{Changes, MAX_SCN, read_number};
 use partition_filter::{Filter, FilterFault};
 use std::alloc::{AllocError, Global};
 
-/// The line that a text spells, without its LF. `BadLine` comes exactly where the text is no line.
+/// The line that a text spells, without its LF. `BadLine` comes exactly where the text is no line, and `NoMemory` where
+/// memory ran out: never of a blank text, nor of one of which a byte that no word has, or an empty word, shows that it is no
+/// line.
 pub fn read_line(alloc: Global, text: &[u8]) -> Result<Line, LineFault>
     ensures exact { Reads (λ line. line) result (line_of text.now) }
 
     // What is read is spelled so, and what is bad is spelled by no line.
     ensures found { IfOk result (λ line. Spells text.now line) }
-    ensures in_range { IfOk result IsInRange }
+    ensures in_range { IfOk result (λ line. is_in_range line ≡ true) }
     ensures bad { IsErrOf result LineFault.BadLine → (line : Line) → Spells text.now line → ⊥ }
+
+    // Memory is taken only for what may be a line that isn't blank.
+    ensures full { IsErrOf result LineFault.NoMemory → is_blank text.now ≡ false }
+    ensures memory { IsErrOf result LineFault.NoMemory → may_be_words text.now ≡ true }
 {
     text_line(alloc, text)
 }
 
-#[tactic(auto, using(crate::proofs::LineTexts::no_line), unfolding(crate::specs::Lines::line_of))]
 fn text_line(alloc: Global, text: &[u8]) -> Result<Line, LineFault>
-    ensures { Reads (λ line. line) result (line_of text.now) }
+    ensures exact { Reads (λ line. line) result (line_of text.now) }
+    ensures full { IsErrOf result LineFault.NoMemory → is_blank text.now ≡ false }
+    ensures memory { IsErrOf result LineFault.NoMemory → may_be_words text.now ≡ true }
+{
+    if is_blank(text) {
+        blank(text).ok_or(LineFault::BadLine)
+    } else {
+        full_line(alloc, text)
+    }
+}
+
+/// A blank line, where its text has no CR.
+#[tactic(auto, unfolding(crate::specs::Lines::line_of))]
+fn blank(text: &[u8]) -> Option<Line>
+    requires { is_blank text.now ≡ true }
+    ensures { result ≡ line_of text.now }
 {
     if has_carriage_return(text) {
-        return Err(LineFault::BadLine);
+        None
+    } else {
+        Some(Line::Blank)
     }
-    if is_blank(text) {
-        return Ok(Line::Blank);
-    }
-    if has_empty_word(text) {
+}
+
+/// The line of a text that isn't blank.
+#[tactic(auto, using(crate::proofs::LineTexts::no_line, crate::proofs::LineTexts::line_of_words))]
+fn full_line(alloc: Global, text: &[u8]) -> Result<Line, LineFault>
+    requires { is_blank text.now ≡ false }
+    ensures exact { Reads (λ line. line) result (line_of text.now) }
+    ensures memory { IsErrOf result LineFault.NoMemory → may_be_words text.now ≡ true }
+{
+    if !may_be_words(text) {
         return Err(LineFault::BadLine);
     }
     let words = words(alloc, text)?;
     words_line(alloc, &words)
+}
+
+/// Whether each byte is a space or one that words have, and no word is empty.
+fn may_be_words(text: &[u8]) -> bool
+    ensures { result ≡ may_be_words text.now }
+{
+    all_in_words(text) && !has_empty_word(text)
+}
+
+fn all_in_words(text: &[u8]) -> bool
+    ensures { result ≡ list_all is_line_byte text.now }
+{
+    text.iter().all(|b| {
+        matches!(*b, b' ' | b'a'..=b'z' | b'0'..=b'9' | b'_' | b'/' | b'=' | b'-' | b'%' | b':' | b',' | b';' | b'*')
+    })
 }
 
 fn has_carriage_return(text: &[u8]) -> bool

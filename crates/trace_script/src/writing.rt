@@ -1,10 +1,10 @@
-ghost use Rattle.std.specs.Prelude.{◌≡◌, ◌<◌, ◌≤◌, ◌∷◌, ◌++◌, length, codes, decimal, flat_map, Some, IfOk, OnOk, OnErr, string_bytes};
+ghost use Rattle.std.specs.Prelude.{◌≡◌, ◌<◌, ◌≤◌, ◌∷◌, ◌++◌, true, length, codes, decimal, flat_map, Some, IfOk, OnOk, OnErr, string_bytes};
 ghost use Rattle.std.specs.List.{AllByRecursion};
 ghost use Rattle.hex.specs.Hex.{encode_lower};
 ghost use Rattle.bus_types.specs.Change.{IsChange, AreChanges, key_text};
 ghost use Rattle.bus_types.specs.declared.limits.TheConstants.{MAX_PAYLOAD};
 ghost use Rattle.trace_script.specs.Lines.{line_of};
-ghost use Rattle.trace_script.specs.Spelling.{AreBytesOf, change_text, when_text, filter_part, line_text, IsFiltered, IsLine, IsInRange, Spells};
+ghost use Rattle.trace_script.specs.Spelling.{AreBytesOf, change_text, when_text, filter_part, line_text, IsFiltered, IsLine, IsInRange, Spells, is_in_range};
 ghost use Rattle.bus_types.specs.Text.{Appends};
 ghost use Rattle.partition_filter.specs.Spelling.{IsFilter, filter_text};
 
@@ -16,10 +16,10 @@ use partition_filter::Filter;
 use std::alloc::Global;
 
 /// Appends the text of a line, without a LF; a blank line is the empty text. What is written is read back as the
-/// same line. After want of memory the output is as before.
-#[tactic(auto, using(crate::proofs::WrittenTexts::read_back))]
+/// same line. It asks of the line what [`Line::is_in_range`] tests. After want of memory the output is as before.
+#[tactic(auto, using(crate::proofs::WrittenTexts::read_back, crate::proofs::WrittenTexts::range_tested))]
 pub fn write_line(alloc: Global, line: &Line, out: &mut Vec<u8>) -> Result<(), NoMemory>
-    requires { IsInRange line.now }
+    requires { is_in_range line.now ≡ true }
     ensures ok { OnOk result (out.new.items ≡ out.old.items ++ line_text line.now) }
     ensures spelled { OnOk result (Spells (line_text line.now) line.now) }
     ensures read_back { line_of (line_text line.now) ≡ Some line.now }

@@ -4,3 +4,4 @@ pub mod Views
 pub mod Cut
 pub mod Scans
 pub mod Splits
+pub mod Whole

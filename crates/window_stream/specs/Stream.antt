@@ -16,8 +16,12 @@ pub record Split : Type 0 where
   pub rest : List ℕ
   pub bad : Option ℕ
 
+-- what the first window of a stream above this SCN follows
+abbrev pub above : ℕ → Since
+above floor = record { floor = floor; started = false }
+
 abbrev pub new_split : ℕ → Split
-new_split floor = record { since = record { floor = floor; started = false }; given = 0; rest = []; bad = None }
+new_split floor = record { since = above floor; given = 0; rest = []; bad = None }
 
 -- the windows that became whole, and what is behind them
 pub record Gives (old : Split) (piece : List ℕ) (rest : List ℕ) (before after : List Span) : Type 0 where
@@ -54,3 +58,41 @@ FeedsFrom (Some place) result old piece new before after = (result ≡ Err (Bad 
 
 abbrev pub Feeds : Result Unit SplitFault → Split → List ℕ → Split → List Span → List Span → Type 0
 Feeds result old piece new before after = FeedsFrom old.bad result old piece new before after
+
+-- ---- the whole stream, in however many pieces it came
+
+-- behind windows of that size something is left that isn't whole yet, and the splitter keeps it
+pub record Waits (from : Since) (size : ℕ) (left : List ℕ) (split : Split) : Type 0 where
+  pub since : split.since ≡ from
+  pub given : split.given ≡ size
+  pub rest : split.rest ≡ left
+  pub behind : Behind from left Unfinished
+
+-- behind windows of that size a complete head can't stand, and that is its place
+pub record Breaks (from : Since) (size : ℕ) (left : List ℕ) (found : ℕ) : Type 0 where
+  pub behind : Behind from left Refused
+  pub place : found ≡ size + length (changes_bytes behind.scn behind.changes)
+
+abbrev pub StopsAs : Option ℕ → Since → ℕ → List ℕ → Split → Type 0
+StopsAs None from size left split = Waits from size left split
+StopsAs (Some found) from size left split = Breaks from size left found
+
+-- a stream above this SCN reads as these windows, and as what the splitter knows of the rest
+pub record ReadsAs (floor : ℕ) (stream : List ℕ) (windows : List Span) (split : Split) : Type 0 where
+  pub rest : List ℕ
+  pub parts : stream ≡ windows_bytes windows ++ rest
+  pub come : Come (above floor) windows
+  pub stops : StopsAs split.bad (after_windows (above floor) windows) (length (windows_bytes windows)) rest split
+
+-- the windows that were appended are those with which the stream goes on
+pub record GoesOn (floor : ℕ) (stream : List ℕ) (windows before after : List Span) (split : Split) : Type 0 where
+  pub others : List Span
+  pub given : after ≡ before ++ others
+  pub reads : ReadsAs floor stream (windows ++ others) split
+
+-- a piece behind a stream that reads as these windows: the stream and the piece read as these and the appended ones, and
+-- are bad at a place exactly where that is answered. After want of memory the stream is as before
+abbrev pub Carries : Result Unit SplitFault → ℕ → List ℕ → List ℕ → List Span → List Span → List Span → Split → Type 0
+Carries (Ok u) floor stream piece windows before after split = GoesOn floor (stream ++ piece) windows before after split × (split.bad ≡ None)
+Carries (Err (Bad place)) floor stream piece windows before after split = GoesOn floor (stream ++ piece) windows before after split × (split.bad ≡ Some place)
+Carries (Err NoMemory) floor stream piece windows before after split = ReadsAs floor stream windows split × (after ≡ before)

@@ -3,10 +3,9 @@
 #![tactic(auto)]
 
 mod decode;
+mod laws;
 mod scan;
 mod splitter;
 
+pub use laws::a_stream_is_split_in_one_way;
 pub use splitter::{SplitFault, Splitter};
-
-#[cfg(test)]
-mod tests;

@@ -1,5 +1,6 @@
-ghost use Rattle.std.specs.Prelude.{◌≡◌, ◌+◌, ◌<◌, ◌≤◌, ◌^◌, [], None, length, drop};
-ghost use Rattle.window_stream.specs.Stream.{Split, new_split, Feeds, FeedsGood};
+ghost use Rattle.std.specs.Prelude.{◌≡◌, ◌+◌, ◌<◌, ◌≤◌, ◌^◌, ℕ, List, [], None, length, drop};
+ghost use Rattle.bus_types.specs.Window.{Span};
+ghost use Rattle.window_stream.specs.Stream.{Split, new_split, Feeds, FeedsGood, ReadsAs, Carries};
 
 use crate::scan::{Stop, scan_all};
 use bus_types::Window;
@@ -58,7 +59,8 @@ fn drop_front(bytes: &mut Vec<u8>, count: usize)
 impl Splitter {
     /// A stream of which nothing has come, and whose first window is the first one above this SCN.
     pub fn new(alloc: Global, floor: u64) -> Splitter
-        ensures { result ≡ new_split floor }
+        ensures value { result ≡ new_split floor }
+        ensures reads { ReadsAs floor [] [] result }
     {
         let follows = Follows {
             floor,
@@ -74,11 +76,27 @@ impl Splitter {
         }
     }
 
-    /// Takes the next piece of the stream, and appends the windows that became whole to `whole`. `Bad` comes exactly
-    /// where a complete head can't stand, after the windows before it were given, and each later call answers the same.
-    /// After want of memory the splitter and the list are as before. A stream that isn't bad is shorter than 2^64 bytes;
-    /// one that is bad takes a piece of any length.
+    /// Takes the next piece of the stream, and appends the windows that became whole to `whole`. However the stream was
+    /// cut into pieces, the windows of all feeds and the place of a head that can't stand are those of the whole stream.
+    /// `Bad` comes exactly where a complete head can't stand, after the windows before it were given, and each later call
+    /// answers the same. After want of memory the splitter and the list are as before. A stream that isn't bad is shorter
+    /// than 2^64 bytes; one that is bad takes a piece of any length.
     pub fn feed(
+        &mut self,
+        alloc: Global,
+        piece: &[u8],
+        whole: &mut Vec<Window>,
+    ) -> Result<(), SplitFault>
+        requires { self.old.bad ≡ None → self.old.given + length self.old.rest + length piece.now < 2 ^ 64 }
+        ensures piece { Feeds result self.old piece.now self.new whole.old.items whole.new.items }
+        ensures stream { (floor : ℕ) (stream : List ℕ) (windows : List Span) → ReadsAs floor stream windows self.old →
+            Carries result floor stream piece.now windows whole.old.items whole.new.items self.new }
+    {
+        self.take(alloc, piece, whole)
+    }
+
+    // As `feed`, seen from the piece alone.
+    fn take(
         &mut self,
         alloc: Global,
         piece: &[u8],

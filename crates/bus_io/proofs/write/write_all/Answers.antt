@@ -1,5 +1,5 @@
-use Rattle.std.proofs.Common.{◌-◌, arith, drop, length, length-take, length-drop}
-use Rattle.bus_io.proofs.Known.{Appends-more}
+use Rattle.std.proofs.Common.{◌-◌, ◌∙◌, arith, drop, length, length-take, length-drop}
+use Rattle.bus_io.proofs.Known.{Appends-more, RoomLeft-more}
 use Rattle.bus_io.proofs.write.write_all.Goals as goal
 
 pub loop-done-preserved : goal.loop-done-preserved
@@ -10,5 +10,7 @@ loop-done-preserved g c =
     record {
       within = omega (arith, length-take (length bytes - done) (drop done bytes), length-drop done bytes, wrote.bound);
       written = Appends-more _ _ _ bytes done _ c.loop-done.invariant.written wrote.bytes;
+      room = RoomLeft-more _ _ _ done _ c.loop-done.invariant.room wrote.room;
       later = omega (arith, wrote.cause.later);
+      beside = wrote.beside ∙ c.loop-done.invariant.beside;
     }

@@ -1,4 +1,4 @@
-use Rattle.event_codec.proofs.Windows.{no_front}
+use Rattle.event_codec.proofs.WindowBytes.{no_front}
 use Rattle.event_codec.proofs.laws.no_window_begins_another.Goals as goal
 
 pub returns : goal.returns

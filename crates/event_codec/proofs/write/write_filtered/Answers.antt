@@ -1,6 +1,6 @@
-use Rattle.std.proofs.Common.{◌≡◌, ◌++◌, List, ℕ, ap, ◌∙◌}
+use Rattle.std.proofs.Common.{◌≡◌, ◌++◌, List, ℕ, refl, sym, ap, ◌∙◌}
 use Rattle.bus_types.specs.Change.{accepted}
-use Rattle.event_codec.specs.Bytes.{changes_bytes}
+use Rattle.event_codec.specs.Bytes.{changes_bytes, mark_bytes}
 use Rattle.event_codec.proofs.Writing.{appended_window}
 use Rattle.event_codec.proofs.write.write_filtered.Goals as goal
 
@@ -10,5 +10,5 @@ returns-clause-ok g c =
     let cs = c.changes.result.now in
     let events : c.append_changes.new.out.items ≡ c.args.out.now.items ++ changes_bytes c.scn-scn.result (accepted test cs) =
     c.append_changes.ensures.items ∙ ap (λ (x : List ℕ). x ++ changes_bytes c.scn-scn.result (accepted test cs)) c.in_ok-reserve.ensures.items in
-    let all = rw c.mark_bytes.ensures at c.append.ensures.items in
-    appended_window test c.args.window.now c.args.out.now.items c.append_changes.new.out.items c.append.new.out.items c.scn-scn.result c.prev.result cs c.scn-scn.ensures.value c.prev.ensures c.changes.ensures events all
+    appended_window test c.args.window.now c.args.out.now.items c.append_changes.new.out.items c.append_mark.new.out.items c.scn-scn.result c.args.window.now.prev cs c.scn-scn.ensures.value refl c.changes.ensures events
+    (c.append_mark.ensures ∙ ap (λ n. c.append_changes.new.out.items ++ mark_bytes n c.args.window.now.prev) (sym c.scn-scn.ensures.value))

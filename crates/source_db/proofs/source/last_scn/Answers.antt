@@ -1,4 +1,4 @@
-use Rattle.std.proofs.Common.{sym, ◌∙◌, arith}
+use Rattle.std.proofs.Common.{sym, ◌∙◌}
 use Rattle.source_db.proofs.Places.{end_from-none, end_from-last}
 use Rattle.source_db.proofs.source.last_scn.Goals as goal
 

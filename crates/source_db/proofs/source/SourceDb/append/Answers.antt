@@ -1,5 +1,5 @@
-use Rattle.std.proofs.Common.{ap, sym, subst, ◌∙◌}
-use Rattle.bus_types.specs.Timeline.{IsTimeline, end_of}
+use Rattle.std.proofs.Common.{ap, sym, ◌∙◌}
+use Rattle.bus_types.specs.Timeline.{end_of}
 use Rattle.bus_types.proofs.Stretches.{timeline-append}
 use Rattle.source_db.proofs.source.SourceDb.append.Goals as goal
 

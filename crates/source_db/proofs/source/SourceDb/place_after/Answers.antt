@@ -1,4 +1,4 @@
-use Rattle.std.proofs.Common.{leb, subst, sym, ◌∙◌, rules, tests}
+use Rattle.std.proofs.Common.{leb, ◌∙◌, rules, tests}
 use Rattle.std.proofs.lemmas.List.Sorted.{IsPartitionPoint-from_clause, IsPartitionedBy-leb}
 use Rattle.bus_types.specs.Window.{Span}
 use Rattle.bus_types.proofs.Places.{rises_in_order}

@@ -1,4 +1,3 @@
-use Rattle.std.proofs.Common.{sym, subst, ◌∙◌}
 use Rattle.source_db.proofs.Places.{rest_is}
 use Rattle.source_db.proofs.source.SourceDb.windows_after.Goals as goal
 

@@ -1,4 +1,4 @@
-use Rattle.std.proofs.Common.{sym, subst, ◌∙◌, arith, rules}
+use Rattle.std.proofs.Common.{◌∙◌, arith}
 use Rattle.source_db.proofs.Places.{part_is, places_rise}
 use Rattle.source_db.proofs.source.SourceDb.windows_between.Goals as goal
 

@@ -1,0 +1,6 @@
+pub mod Counts
+pub mod Disk
+pub mod File
+pub mod Pending
+pub mod Memory
+pub mod Rooms
