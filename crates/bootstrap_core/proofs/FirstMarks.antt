@@ -69,8 +69,7 @@ left_done w bytes place is none l = done_at w bytes place l.left l.tail is none 
 pub stands_within : (bytes : List ℕ) (place next : ℕ) (e : Event) → place ≤ length bytes → StandsAt bytes place (event_bytes e) next → (next ≤ length bytes) × (place < next)
 stands_within bytes place next e within stands =
     let parts = ap length (stands_parts bytes place (event_bytes e) next stands) in
-    let long = event_length e in
-    (
+    let long = event_length e in (
       omega (arith, length-drop place bytes, parts, length-append (event_bytes e) (drop next bytes), stands.after, within),
       omega (arith, stands.after, long, change_positive e.change),
     )

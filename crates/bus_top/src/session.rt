@@ -130,7 +130,14 @@ impl Session {
         ensures { TakesEnd result (self.old.pending.items ++ end.now) self.old text.old.items self.new text.new.items }
     {
         hold(&self.place, &mut self.pending, end)?;
-        step(&mut self.bus, &mut self.place, alloc, &self.pending, 1, text)?;
+        step(
+            &mut self.bus,
+            &mut self.place,
+            alloc,
+            &self.pending,
+            1,
+            text,
+        )?;
         self.pending.clear();
         Ok(())
     }
@@ -143,7 +150,14 @@ impl Session {
         if self.pending.is_empty() {
             return Ok(());
         }
-        step(&mut self.bus, &mut self.place, alloc, &self.pending, 0, text)
+        step(
+            &mut self.bus,
+            &mut self.place,
+            alloc,
+            &self.pending,
+            0,
+            text,
+        )
     }
 }
 

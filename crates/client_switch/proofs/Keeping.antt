@@ -84,9 +84,9 @@ floor_after : (o told : Option Content) (m : Move) (mark next before after : Mar
     → IfSome o (λ c. IsStored c.mark before) → TellsOnly (option_map (content_after None m) o) told → IfSome told (λ c. IsStored c.mark after) → IfSome told (λ c. floor_of before ≤ floor_of after)
 floor_after o told m mark next before after stored is text rise one moves two =
     let less : (c : Content) → IsStored c.mark before × IsStored c.mark mark → IsStored (content_after None m c).mark after → floor_of before ≤ floor_of after = λ c both last.
-        let first = one_stored c.mark before mark both.0 both.1 in
-        let end = one_stored (Some m.mark) after next last (is, text) in
-        omega (arith, rise, ap floor_of first, ap floor_of end)
+    let first = one_stored c.mark before mark both.0 both.1 in
+    let end = one_stored (Some m.mark) after next last (is, text) in
+    omega (arith, rise, ap floor_of first, ap floor_of end)
     in
     both_told (λ c. IsStored c.mark after → floor_of before ≤ floor_of after) (λ c. IsStored c.mark after) (floor_of before ≤ floor_of after) told (λ c less stored. less stored)
     (carried_told (λ c. IsStored c.mark before × IsStored c.mark mark) (λ c. IsStored c.mark after → floor_of before ≤ floor_of after) (content_after None m) o told moves less (both_stored o before mark one stored)) two

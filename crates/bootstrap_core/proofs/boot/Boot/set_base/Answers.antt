@@ -13,7 +13,6 @@ returns-in-Err-clause-sets g c =
     subst (λ b. SetsBase (Err c.halt_at.result) c.args.base (told g.G.WindowLog.state g.K.Keeper.state b) (told g.G.WindowLog.state g.K.Keeper.state c.halt_at.new.self)) c.self.view_is
     (set_refused g.G.WindowLog.state g.K.Keeper.state c.args.base _ c.halt_at.new.self c.set_mark.new.keeper c.in-Err.fault c.store_fault.result c.halt_at.result runs later c.in-Err.ensures c.store_fault.ensures c.halt_at.ensures.fault c.halt_at.ensures.halted)
 
-
 pub returns-in-Err-clause-crash : goal.returns-in-Err-clause-crash
 returns-in-Err-clause-crash g c =
     let log = c.self.inside.log in
