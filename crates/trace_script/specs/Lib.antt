@@ -5,3 +5,4 @@ pub mod Spelling
 pub mod Reading
 pub mod Input
 pub mod Cutting
+pub mod Printed

@@ -3,8 +3,12 @@ ghost use Rattle.bus_types.specs.declared.change.Key.TheVariants.{Long};
 ghost use Rattle.partition_filter.specs.Selection.Selection.{All, Rules};
 ghost use Rattle.partition_filter.specs.declared.rule.Keys.TheVariants.{Every};
 ghost use Rattle.trace_script.specs.declared.line.Line.TheVariants.{Blank, Relay, Consumer, Commit, Feed, Poll, Show, Crash, Stop, Stream, Log, Apply, Trim, RestartBoot};
+ghost use Rattle.event_codec.specs.declared.answer.Answer.TheVariants as answers;
+ghost use Rattle.event_codec.specs.declared.reply.Shape.TheVariants as shapes;
+ghost use Rattle.trace_script.specs.declared.printing.Stage.TheVariants as stages;
 ghost use Rattle.trace_script.specs.Input.{RawLine, is_too_long};
 ghost use Rattle.trace_script.specs.Lines.{line_of};
+ghost use Rattle.trace_script.specs.Printed.{relay_line, gap_line, boot_line, reply_line};
 
 /// The limits of the numbers of a line, by computation from the grammar alone: at each end the last number that is in it and
 /// the first that isn't.
@@ -82,4 +86,27 @@ pub fn worked_lines()
     ensures other_filter { line_of (codes "consumer c some") ≡ None }
     ensures other_stop { line_of (codes "stop c later") ≡ None }
     ensures other_restart { line_of (codes "restart relay") ≡ None }
+{}
+
+/// The lines of some replies, by computation from the definitions alone.
+pub fn worked_replies()
+    ensures served { reply_line (stages.Online 0) (shapes.Windows 1 10) 41 ≡ codes "served 1 41 online 10\n" }
+    ensures not_found { reply_line (stages.Online 10) (shapes.Only (answers.NotFound 20)) 9 ≡ codes "notfound 20\n" }
+    ensures empty { reply_line (stages.Online 0) (shapes.Only (answers.Empty 0)) 9 ≡ codes "empty 0\n" }
+    ensures small { reply_line (stages.Online 0) (shapes.Only (answers.TooSmall 41)) 9 ≡ codes "small 41\n" }
+    ensures behind { reply_line (stages.Online 60) (shapes.Only (answers.Behind 50)) 9 ≡ codes "behind 50\n" }
+    ensures gone { reply_line (stages.Scanned 10) (shapes.Only (answers.LogGone 40)) 9 ≡ codes "gone 40\n" }
+    ensures start_delta { reply_line (stages.Online 0) (shapes.Only (answers.StartDelta 40)) 9 ≡ codes "start delta 0 40\n" }
+    ensures start_snapshot { reply_line (stages.Online 0) (shapes.Only (answers.StartSnapshot 10)) 9 ≡ codes "start snapshot 10\n" }
+    ensures changes { reply_line (stages.Delta 40) (shapes.Changes 2 true) 57 ≡ codes "changes 2 57 more\n" }
+    ensures last_changes { reply_line (stages.Delta 40) (shapes.Changes 2 false) 58 ≡ codes "changes 2 58 online 40\n" }
+    ensures rows { reply_line stages.Snapshot (shapes.Rows 1 10 true) 34 ≡ codes "rows 1 34 at 10 more\n" }
+    ensures last_rows { reply_line stages.Snapshot (shapes.Rows 1 30 false) 34 ≡ codes "rows 1 34 at 30 scanned\n" }
+    ensures catchup { reply_line (stages.Scanned 10) (shapes.Only (answers.Target 40)) 9 ≡ codes "target 40 catchup\n" }
+    ensures online { reply_line (stages.Scanned 40) (shapes.Only (answers.Target 40)) 9 ≡ codes "target 40 online\n" }
+    ensures replay { reply_line (stages.Catchup 40) (shapes.Windows 1 20) 41 ≡ codes "replay 1 41 at 20\n" }
+    ensures replayed { reply_line (stages.Catchup 40) (shapes.Windows 3 40) 122 ≡ codes "replay 3 122 online 40\n" }
+    ensures relay { relay_line 10 30 ≡ codes "relay 10 30\n" }
+    ensures boot { boot_line 0 10 40 ≡ codes "boot 0 10 40\n" }
+    ensures gap { gap_line 60 ≡ codes "gap 60\n" }
 {}
