@@ -17,7 +17,7 @@ use Rattle.bus_types.proofs.Runs.{longest_run_is, run_takes}
 use Rattle.partition_filter.specs.Selection.{Selection, test_of}
 use Rattle.checkpoint.specs.declared.mark.Mark.{Mark}
 use Rattle.checkpoint.specs.declared.mark.Mark.TheVariants.{Online}
-use Rattle.bus_wire.specs.Questions.{Reply}
+use Rattle.event_codec.specs.Questions.{Reply}
 use Rattle.bus_wire.specs.True.{reply_of}
 use Rattle.client_switch.specs.Moves.{Wish, question}
 use Rattle.client_switch.specs.Moves.Wish.{NoWish}

@@ -6,10 +6,10 @@ ghost use Rattle.bus_top.specs.Session.{IsSession, Reached};
 ghost use Rattle.bus_top.specs.Headline.{Headline};
 ghost use Rattle.bus_top.specs.Trace.{EndsAt, StopsReading, StopsWriting, StopsShort, HandsBack, IsTrace, Ended, Ends, Turned, kept_by, stop_status};
 
+use crate::Bus;
 use crate::session::{Session, Stop};
 use crate::status::Status;
 use bus_io::{Sink, Source, write_all};
-use history_core::Bus;
 use std::alloc::Global;
 
 /// How many bytes of the input are asked for at a time.

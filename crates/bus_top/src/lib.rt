@@ -7,5 +7,10 @@ mod call;
 mod session;
 mod status;
 
+use plain_buffer::PlainBuffer;
+
 pub use call::trace;
 pub use status::Status;
+
+/// The bus of a script, whose relay keeps its windows in a list.
+pub type Bus = history_core::Bus<PlainBuffer>;

@@ -7,9 +7,10 @@ ghost use Rattle.history_core.specs.Bus.{state_of, IsSound};
 ghost use Rattle.trace_script.specs.declared.line.Line.{Line};
 ghost use Rattle.bus_top.specs.Session.{IsSession, IsWithin, TakesLine, TakesEnd, Feeds, Finishes, Holds, Prints, Sends, SendsFront, is_long};
 
+use crate::Bus;
 use bus_io::{GrowingSink, Sink, write_all};
 use bus_types::NoMemory;
-use history_core::{Bus, StepFault};
+use history_core::StepFault;
 use memchr::memchr;
 use std::alloc::Global;
 use std::mem;

@@ -1,11 +1,12 @@
 -- A bootstrap in memory that is opened, applies and trims: what it is then, and that nothing but want of memory comes.
-use Rattle.std.proofs.Common.{◌≡◌, ℕ, ◌-◌, ◌≤◌, min, inl, inr, false, true≢false, List, [], take, Option, Some, None, Ok, refl, sym, ap, subst, ◌∙◌, arith}
+use Rattle.std.proofs.Common.{◌≡◌, ℕ, ◌-◌, ◌≤◌, min, inl, inr, false, true≢false, List, [], length, take, Option, Some, None, Ok, refl, sym, ap, subst, ◌∙◌, arith}
 use Rattle.bus_types.specs.Window.{Span}
 use Rattle.bus_types.specs.Timeline.{IsTimeline, end_from, windows_between}
 use Rattle.bus_types.specs.Relay.{Relay}
-use Rattle.bus_types.proofs.Stretches.{between-between}
+use Rattle.std.proofs.lemmas.List.{take_all}
+use Rattle.bus_types.proofs.Stretches.{between-between, between_run}
 use Rattle.bus_types.proofs.Floors.{between-after}
-use Rattle.bus_stores.specs.Keeper.{KeeperState, Move, SameStore, Meets, stops_after}
+use Rattle.bus_stores.specs.Keeper.{Content, Move, SameStore, Meets, stops_after}
 use Rattle.bus_stores.specs.Log.{LogState}
 use Rattle.bus_stores.specs.Taking.{LeavesBy}
 use Rattle.bus_stores.specs.Memory.{MemoryStore, new_store, no_fails, told_by}
@@ -13,7 +14,8 @@ use Rattle.bus_stores.specs.MemoryLog.{MemoryWindows, new_windows, log_of}
 use Rattle.bus_wire.specs.True.{Boot}
 use Rattle.bootstrap_core.specs.declared.fault.BootOpen.{BootOpen}
 use Rattle.bootstrap_core.specs.declared.fault.BootOpen.TheVariants as opens
-use Rattle.bootstrap_core.specs.Boot.{BootState, told, Stands, StandsForBoot}
+use Rattle.std.specs.Prelude.{IfSome}
+use Rattle.bootstrap_core.specs.Boot.{BootState, told, HoldsTable, Stands, StandsForBoot}
 use Rattle.bootstrap_core.specs.Opening.{IsOpened, OpensNot}
 use Rattle.bootstrap_core.proofs.Opened.{stands_again}
 use Rattle.bootstrap_core.specs.Moving.{AppliesNext, Trims}
@@ -42,6 +44,7 @@ new_booted = record {
   runs = refl;
   log_sound = refl;
   roomy = refl;
+  begins = refl;
   keeper_sound = refl;
   unarmed = refl;
 }
@@ -77,6 +80,7 @@ module _ (ws : List Span) (b : MemoryParts) (log : MemoryWindows) (keeper : Memo
           runs = opened.runs;
           log_sound = ap (λ (g : MemoryWindows). g.fails) log_is ∙ are.booted.log_sound;
           roomy = ap (λ (g : MemoryWindows). g.limit) log_is ∙ are.booted.roomy;
+          begins = ap (λ (g : MemoryWindows). g.floor) log_is ∙ are.booted.begins ∙ sym (λ i. (marks i).base);
           keeper_sound = kept.0;
           unarmed = kept.1;
         };
@@ -84,21 +88,21 @@ module _ (ws : List Span) (b : MemoryParts) (log : MemoryWindows) (keeper : Memo
       }
 
   -- nothing but want of memory keeps one from being opened
-  pub open_fault : (new : KeeperState) (fault : BootOpen) → OpensNot fault (log_of log) (told_by keeper) new → MayOpen fault
-  open_fault new opens.BadMark not = not b.mark stand.table.stored
-  open_fault new (opens.Ahead applied high) not =
-      let mark = (stands_again ws (log_of log) (told_by keeper) (told_by keeper) not.2.0 b.mark not.2.1 (record { content = refl; stops = refl }) stand refl).0 in
+  pub open_fault : (after : MemoryStore) → SameStore (told_by keeper) (told_by after) → (fault : BootOpen) → OpensNot fault (log_of log) (told_by keeper) (told_by after) → MayOpen fault
+  open_fault after same opens.BadMark not = not b.mark (subst (λ (o : Option Content). IfSome o (HoldsTable ws b.mark)) same.content stand.table).stored
+  open_fault after same (opens.Ahead applied high) not =
+      let mark = (stands_again ws (log_of log) (told_by keeper) (told_by after) not.2.0 b.mark not.2.1 same stand refl).0 in
       let number : not.2.0.applied ≡ b.mark.applied = λ i. (mark i).applied in
       let between = stand.between.high in
       absurd (omega (arith, not.0, not.1, not.2.2, number, between))
-  open_fault new (opens.Hole base floor) not =
-      let mark = (stands_again ws (log_of log) (told_by keeper) (told_by keeper) not.2.0 b.mark not.2.1 (record { content = refl; stops = refl }) stand refl).0 in
+  open_fault after same (opens.Hole base floor) not =
+      let mark = (stands_again ws (log_of log) (told_by keeper) (told_by after) not.2.0 b.mark not.2.1 same stand refl).0 in
       let number : not.2.0.base ≡ b.mark.base = λ i. (mark i).base in
       let between = stand.between.low in
       absurd (omega (arith, not.0, not.1, not.2.2, number, between))
-  open_fault new opens.LogFailed not = not
-  open_fault new opens.StoreFailed not = true≢false (sym (ap no_fails keeper_sound) ∙ not.1)
-  open_fault new opens.NoMemory not = tt
+  open_fault after same opens.LogFailed not = not
+  open_fault after same opens.StoreFailed not = true≢false (sym (ap no_fails keeper_sound) ∙ not.1)
+  open_fault after same opens.NoMemory not = tt
 
 -- ---- step by step
 
@@ -186,15 +190,25 @@ module _ (ws : List Span) (old new : MemoryParts) (h : IsBooted ws old) where
       let high : (boot_numbers new).high ≡ n.high = ap (λ (l : LogState). l.high) a.log in
       let keeper = made_kept _ old.keeper new.keeper a.keeper.made h.keeper_sound h.unarmed in
       record {
-        booted = record { stands = stands a.runs; runs = a.runs; log_sound = log.0; roomy = log.1 ∙ h.roomy; keeper_sound = keeper.0; unarmed = keeper.1 };
+        booted = record { stands = stands a.runs; runs = a.runs; log_sound = log.0; roomy = log.1 ∙ h.roomy; begins = ap (λ (l : LogState). l.floor) a.log ∙ h.begins ∙ sym (λ i. (mark i).base); keeper_sound = keeper.0; unarmed = keeper.1 };
         is = λ i. record { base = (mark i).base; applied = applied i; high = high i };
       }
 
+  -- where a log begins that dropped each window up to a base that was found so
+  begins_at : (upto base : ℕ) → IsTimeline ws → base ≡ end_from n.base (windows_between n.base upto ws) → base ≤ n.high → new.log.floor ≡ end_from old.log.floor (windows_between old.log.floor base old.log.windows) → new.log.floor ≡ base
+  begins_at upto base timeline found within begins =
+      let run : List Span = windows_between n.base upto ws in
+      let from : windows_between old.log.floor base old.log.windows ≡ windows_between old.log.floor base ws = held_between ws old.log.windows old.log.floor n.high h.stands.stretch.windows old.log.floor base (omega arith) within in
+      let again : windows_between n.base base ws ≡ run = ap (λ (e : ℕ). windows_between n.base e ws) found ∙ between_run 0 n.base upto (length run) ws run timeline (sym (take_all (length run) run (omega arith))) in
+      begins ∙ ap (end_from old.log.floor) from ∙ ap (λ (f : ℕ). end_from f (windows_between f base ws)) h.begins ∙ ap (end_from n.base) again ∙ sym found
+
   -- its base was moved
-  pub trimmed_booted : (base scn : ℕ) → Trims (Ok base) scn (told_of old) (told_of new) → (new.halted ≡ false → Stands ws (told_of new)) → BootedAt ws (trimmed_to ws n scn) new
-  trimmed_booted base scn t stands =
+  pub trimmed_booted : (base scn : ℕ) → IsTimeline ws → Trims (Ok base) scn (told_of old) (told_of new) → (new.halted ≡ false → Stands ws (told_of new)) → BootedAt ws (trimmed_to ws n scn) new
+  trimmed_booted base scn timeline t stands =
       let low = h.stands.between.low in
-      let order = h.stands.between.high in
+      let order = h.stands.between.order in
+      let top = h.stands.between.high in
+      let least = t.1.high in
       let found : base ≡ end_from n.base (windows_between n.base (min scn n.applied) ws) =
       t.1.is ∙ ap (end_from n.base) (held_between ws old.log.windows old.log.floor n.high h.stands.stretch.windows n.base (min scn n.applied) low (omega arith)) in
       elim t.2 [
@@ -205,7 +219,7 @@ module _ (ws : List Span) (old new : MemoryParts) (h : IsBooted ws old) where
             let base_is : new.mark.base ≡ _ = (λ i. (mark i).base) ∙ sym keeps.is ∙ found in
             let high : (boot_numbers new).high ≡ n.high = ap (λ (l : LogState). l.high) keeps.same.log in
             record {
-              booted = record { stands = stands t.0; runs = t.0; log_sound = log.0; roomy = log.1 ∙ h.roomy; keeper_sound = keeper.0; unarmed = keeper.1 };
+              booted = record { stands = stands t.0; runs = t.0; log_sound = log.0; roomy = log.1 ∙ h.roomy; begins = ap (λ (l : LogState). l.floor) keeps.same.log ∙ h.begins ∙ sym (λ i. (mark i).base); keeper_sound = keeper.0; unarmed = keeper.1 };
               is = λ i. record { base = base_is i; applied = (mark i).applied; high = high i };
             }
         | inr drops ↦
@@ -215,7 +229,7 @@ module _ (ws : List Span) (old new : MemoryParts) (h : IsBooted ws old) where
             let base_is : new.mark.base ≡ _ = (λ i. (mark i).base) ∙ found in
             let high : (boot_numbers new).high ≡ n.high = drops.dropped.high ∙ ap (λ (l : LogState). l.high) drops.same in
             record {
-              booted = record { stands = stands t.0; runs = t.0; log_sound = log.0; roomy = log.1 ∙ h.roomy; keeper_sound = keeper.0; unarmed = keeper.1 };
+              booted = record { stands = stands t.0; runs = t.0; log_sound = log.0; roomy = log.1 ∙ h.roomy; begins = begins_at (min scn n.applied) base timeline found (omega arith) (drops.all refl) ∙ sym (λ i. (mark i).base); keeper_sound = keeper.0; unarmed = keeper.1 };
               is = λ i. record { base = base_is i; applied = (mark i).applied; high = high i };
             }
       ]

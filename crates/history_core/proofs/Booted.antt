@@ -60,6 +60,7 @@ booted_stays ws w t f b h =
       runs = h.runs;
       log_sound = h.log_sound;
       roomy = h.roomy;
+      begins = h.begins;
       keeper_sound = h.keeper_sound;
       unarmed = h.unarmed;
     }
@@ -72,7 +73,7 @@ none_listed (f ∷ fs) sound = absurd (true≢false (sym sound))
 
 -- what a log and a keeper tell of what they can do
 abbrev room_of : MemoryWindows → LogRoom
-room_of s = record { limit = s.limit; sound = no_fails s.fails }
+room_of s = record { limit = s.limit; sound = no_fails s.fails; drops_all = true }
 
 abbrev pub stops_of : MemoryStore → Stops
 stops_of s = record { marks = s.marks; armed = s.armed; sound = no_fails s.fails }

@@ -105,6 +105,7 @@ module _ (ws : List Span) (end count : ℕ) (b : MemoryParts) (bytes : List ℕ)
           runs = runs;
           log_sound = log.0;
           roomy = log.1 ∙ can.booted.roomy;
+          begins = logs.logged.floor ∙ can.booted.begins ∙ sym (λ i. (mark i).base);
           keeper_sound = keeper.0;
           unarmed = keeper.1;
         };

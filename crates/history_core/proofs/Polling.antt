@@ -54,7 +54,7 @@ still_sound : (old new : MemoryStore) → no_fails new.fails ≡ no_fails old.fa
 still_sound old new same sound = none_listed new.fails (same ∙ ap no_fails sound)
 
 held : (stop : Option Stop) (m : Move) (old new : MemoryStore) → Meets stop m (told_by old) (told_by new) → content_of new ≡ content_after stop m (content_of old)
-held stop m old new meets = same_Some (content_of new) (content_after stop m (content_of old)) meets.content
+held stop m old new meets = sym (same_Some (content_after stop m (content_of old)) (content_of new) meets.content)
 
 met : (stop : Option Stop) (m : Move) (old new : MemoryStore) → Meets stop m (told_by old) (told_by new) → stops_of new ≡ stops_after stop m (stops_of old)
 met stop m old new meets = same_Some (stops_of new) (stops_after stop m (stops_of old)) meets.stops

@@ -78,12 +78,14 @@ pub record IsMember (ws : List Span) (m : MemberState) : Type 0 where
   pub shown : m.shows ≤ m.store.calls
   pub reached : IsReached m.client.mark m.client.wish
 
--- the bootstrap stands for the source, has met no fault, and its log, which has room for anything, and its keeper fail at no call
+-- the bootstrap stands for the source, has met no fault, and its log, which has room for anything and begins at its base, and its
+-- keeper fail at no call
 pub record IsBooted (ws : List Span) (b : BootParts MemoryWindows MemoryStore) : Type 0 where
   pub stands : Stands ws (told log_of told_by b)
   pub runs : b.halted ≡ false
   pub log_sound : b.log.fails ≡ []
   pub roomy : b.log.limit ≡ 18446744073709551615
+  pub begins : b.log.floor ≡ b.mark.base
   pub keeper_sound : b.keeper.fails ≡ []
   pub unarmed : b.keeper.armed ≡ None
 

@@ -9,7 +9,6 @@ use bootstrap_core::{Boot, BootFault, BootOpen, TakeLog};
 use bus_stores::{MemoryKeeper, MemoryLog};
 use bus_types::NoMemory;
 use partition_filter::Filter;
-use plain_buffer::PlainBuffer;
 use relay_core::{Buffer, Served, relay_answer};
 use std::alloc::Global;
 use std::mem;
@@ -60,14 +59,14 @@ pub(crate) fn restart(alloc: Global, boot: &mut MemoryBoot) -> Result<(), NoMemo
 }
 
 /// Logs the next so many windows that the relay keeps, or those there are. The relay has evicted none that wasn't logged.
-pub(crate) fn log_windows(
+pub(crate) fn log_windows<B: Buffer>(
     alloc: Global,
-    relay: &PlainBuffer,
+    relay: &B,
     boot: &mut MemoryBoot,
     count: u64,
 ) -> Result<(), NoMemory>
-    requires { (ws : List Span) × CanLog ws relay.now boot.old }
-    ensures { OnOk result ((ws : List Span) → CanLog ws relay.now boot.old → BootedAt ws (logged_to ws relay.now (boot_numbers boot.old) count) boot.new) }
+    requires { (ws : List Span) × CanLog ws (B.relay relay.now) boot.old }
+    ensures { OnOk result ((ws : List Span) → CanLog ws (B.relay relay.now) boot.old → BootedAt ws (logged_to ws (B.relay relay.now) (boot_numbers boot.old) count) boot.new) }
 {
     let mut left = count;
     while left > 0 {
@@ -78,17 +77,17 @@ pub(crate) fn log_windows(
 
 // Logs the first windows of one reply of the relay, at most so many, and answers how many; where the relay has no more, it
 // answers the most.
-fn log_some(
+fn log_some<B: Buffer>(
     alloc: Global,
-    relay: &PlainBuffer,
+    relay: &B,
     boot: &mut MemoryBoot,
     most: u64,
 ) -> Result<u64, NoMemory>
     requires some { 1 ≤ most }
-    requires can { (ws : List Span) × CanLog ws relay.now boot.old }
+    requires can { (ws : List Span) × CanLog ws (B.relay relay.now) boot.old }
     ensures some { IfOk result (λ n. 1 ≤ n) }
     ensures most { IfOk result (λ n. n ≤ most) }
-    ensures logs { IfOk result (λ n. (ws : List Span) → CanLog ws relay.now boot.old → BootedAt ws (logged_to ws relay.now (boot_numbers boot.old) n) boot.new) }
+    ensures logs { IfOk result (λ n. (ws : List Span) → CanLog ws (B.relay relay.now) boot.old → BootedAt ws (logged_to ws (B.relay relay.now) (boot_numbers boot.old) n) boot.new) }
 {
     if relay.tail() <= boot.high() {
         return Ok(most);
@@ -100,9 +99,9 @@ fn log_some(
 }
 
 // The relay's reply to who has all windows up to an SCN, of which it keeps the next one, and how many windows the reply has.
-fn next_reply(alloc: Global, relay: &PlainBuffer, scn: u64) -> Result<(Vec<u8>, u32), NoMemory>
-    requires { (ws : List Span) × HasNext ws relay.now scn }
-    ensures { IfOk result (λ r. (ws : List Span) → HasNext ws relay.now scn → IsNextReply ws relay.now.tail scn r.0.items r.1) }
+fn next_reply<B: Buffer>(alloc: Global, relay: &B, scn: u64) -> Result<(Vec<u8>, u32), NoMemory>
+    requires { (ws : List Span) × HasNext ws (B.relay relay.now) scn }
+    ensures { IfOk result (λ r. (ws : List Span) → HasNext ws (B.relay relay.now) scn → IsNextReply ws (B.relay relay.now).tail scn r.0.items r.1) }
 {
     let mut reply = Vec::new(alloc);
     let served = relay_answer(

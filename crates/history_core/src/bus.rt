@@ -19,7 +19,6 @@ use bus_io::{Sink, write_all};
 use bus_stores::MemoryKeeper;
 use bus_types::{Changes, NoMemory, Window, copy_changes};
 use partition_filter::Filter;
-use plain_buffer::PlainBuffer;
 use relay_core::{Buffer, relay_answer};
 use source_db::SourceDb;
 use std::alloc::Global;
@@ -32,37 +31,37 @@ const MOST_CONSUMERS: usize = 64;
 /// The most windows of a script.
 const MOST_COMMITS: u64 = 1_000_000;
 
-/// A source, a relay, a bootstrap over a log and a keeper in memory, and consumers that follow the source, each with a
+/// A source, a relay over any buffer, a bootstrap over a log and a keeper in memory, and consumers that follow the source, each with a
 /// client and a keeper of its rows and its mark in memory. Contracts see the source's windows, the relay, and what log,
 /// clients and keepers tell; `state_of` is the state of the script whose bus it is, and `IsSound` says that all of it fits
 /// together (`docs/DEFINITIONS.md`).
 #[derive(Debug, Drop)]
-pub struct Bus {
+pub struct Bus<B: Buffer + Drop> {
     begun: bool,
     source: SourceDb,
-    relay: PlainBuffer,
+    relay: B,
     boot: MemoryBoot,
     members: Vec<Member>,
     /// Empty, with room for each consumer's keeper.
     room: Vec<MemoryKeeper>,
 }
 
-impl Model for Bus {
+impl<B: Buffer + Drop> Model for Bus<B> {
     ghost use Rattle.std.specs.Prelude.{◌≡◌, ◌≤◌, [], length};
     ghost use Rattle.std.specs.Vec.{vec_capacity};
     ghost use Rattle.history_core.specs.Bus.{Parts};
 
     ghost Value = { Parts };
 
-    ghost view = { λ b. record { begun = b.begun; source = b.source; relay = b.relay; boot = b.boot; members = b.members.items } };
+    ghost view = { λ b. record { begun = b.begun; source = b.source; relay = B.relay b.relay; boot = b.boot; members = b.members.items } };
 
     ghost invariant = { λ b. (b.room.items ≡ []) × (length b.members.items ≤ vec_capacity b.room) };
 }
 
-impl Bus {
+impl<B: Buffer + Drop> Bus<B> {
     /// A bus without a commit and without a consumer, whose relay keeps at most so many bytes of windows in full, from
     /// 1,048,576 to 268,435,456, and at most so many windows, from 1 to 65,536.
-    pub fn new(alloc: Global, bytes: u64, windows: u32) -> Result<Bus, NoMemory>
+    pub fn new(alloc: Global, bytes: u64, windows: u32) -> Result<Bus<B>, NoMemory>
         requires some_bytes { 1048576 ≤ bytes }
         requires few_bytes { bytes ≤ 268435456 }
         requires some_windows { 1 ≤ windows }
@@ -73,7 +72,7 @@ impl Bus {
         Ok(Bus {
             begun: false,
             source: SourceDb::new(alloc),
-            relay: PlainBuffer::new(alloc, bytes, windows)?,
+            relay: B::new(alloc, bytes, windows)?,
             boot: new_boot(alloc)?,
             members: Vec::new(alloc),
             room: Vec::new(alloc),
@@ -188,7 +187,7 @@ impl Bus {
         if self.begun {
             return Err(StepFault::BadLine);
         }
-        self.relay = PlainBuffer::new(alloc, bytes, windows)?;
+        self.relay = B::new(alloc, bytes, windows)?;
         Ok(Vec::new(alloc))
     }
 
@@ -385,9 +384,9 @@ fn first(windows: &[Window], count: u64) -> &[Window]
 }
 
 // The relay publishes windows that follow each other and its newest one.
-fn publish(alloc: Global, relay: &mut PlainBuffer, windows: &[Window]) -> Result<(), NoMemory>
-    requires { IsTimelineFrom relay.old.tail windows.now }
-    ensures { OnOk result (Publishes windows.now relay.old relay.new) }
+fn publish<B: Buffer>(alloc: Global, relay: &mut B, windows: &[Window]) -> Result<(), NoMemory>
+    requires { IsTimelineFrom (B.relay relay.old).tail windows.now }
+    ensures { OnOk result (Publishes windows.now (B.relay relay.old) (B.relay relay.new)) }
 {
     for window in windows {
         relay.publish(alloc, window)?;

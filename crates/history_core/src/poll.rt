@@ -28,8 +28,7 @@ use client_switch::{AskRefusal, TakeFault};
 use dispatcher::NoCallbacks;
 use event_codec::{Answer, answer_bytes};
 use partition_filter::Filter;
-use plain_buffer::PlainBuffer;
-use relay_core::relay_answer;
+use relay_core::{Buffer, relay_answer};
 use std::alloc::Global;
 
 // Whether it is built what a consumer does behind this answer of the bootstrap.
@@ -43,14 +42,14 @@ fn is_followed(answer: &Answer) -> bool
 }
 
 // The bytes of the relay's reply to who asks for windows.
-fn streamed(
+fn streamed<B: Buffer>(
     alloc: Global,
-    relay: &PlainBuffer,
+    relay: &B,
     scn: u64,
     filter: &Filter,
     max: u32,
 ) -> Result<Vec<u8>, NoMemory>
-    ensures { IfOk result (λ reply. reply.items ≡ reply_bytes (answer_of relay.now scn (test_of filter.now) max)) }
+    ensures { IfOk result (λ reply. reply.items ≡ reply_bytes (answer_of (B.relay relay.now) scn (test_of filter.now) max)) }
 {
     let mut reply = Vec::new(alloc);
     relay_answer(alloc, relay, scn, filter, max, &mut reply)?;
@@ -75,13 +74,13 @@ fn started(
 }
 
 // The bytes of the reply to an ask, or nothing where it isn't built yet what a consumer does behind it.
-fn answer(
+fn answer<B: Buffer>(
     alloc: Global,
-    relay: &PlainBuffer,
+    relay: &B,
     boot: &MemoryBoot,
     ask: &Ask,
 ) -> Result<Option<Vec<u8>>, NoMemory>
-    ensures { IfOk result (Replies relay.now (boot_numbers boot.now) ask.now) }
+    ensures { IfOk result (Replies (B.relay relay.now) (boot_numbers boot.now) ask.now) }
 {
     match ask {
         Ask::Stream { scn, filter, max } => {
@@ -95,15 +94,15 @@ impl Member {
     /// One ask of the relay or of the bootstrap, and what is made of the reply: at most one commit. The text is what it
     /// prints. `BadLine` comes exactly where it isn't built yet what a consumer does behind the reply, and then nothing
     /// changed. After want of memory it isn't used again.
-    pub fn poll(
+    pub fn poll<B: Buffer>(
         &mut self,
         alloc: Global,
-        relay: &PlainBuffer,
+        relay: &B,
         boot: &MemoryBoot,
         max: u32,
     ) -> Result<Vec<u8>, StepFault>
-        requires { (ws : List Span) × StandsFor ws relay.now × Stands ws (told log_of told_by boot.now) × IsMember ws self.old }
-        ensures { (ws : List Span) → StandsFor ws relay.now → Stands ws (told log_of told_by boot.now) → IsMember ws self.old → Polls ws relay.now (boot_numbers boot.now) max result self.old self.new }
+        requires { (ws : List Span) × StandsFor ws (B.relay relay.now) × Stands ws (told log_of told_by boot.now) × IsMember ws self.old }
+        ensures { (ws : List Span) → StandsFor ws (B.relay relay.now) → Stands ws (told log_of told_by boot.now) → IsMember ws self.old → Polls ws (B.relay relay.now) (boot_numbers boot.now) max result self.old self.new }
     {
         let ask = self.ask(alloc, max)?;
         let Some(reply) = answer(alloc, relay, boot, &ask)? else {

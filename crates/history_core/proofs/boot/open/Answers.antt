@@ -4,7 +4,7 @@ use Rattle.history_core.proofs.boot.open.Goals as goal
 
 pub unreachable-requires : goal.unreachable-requires
 unreachable-requires c =
-    let may = open_fault c.requires.0 c.requires.1 c.args.log c.args.keeper c.requires.2 _ c.in-Err.field-0.0 c.in-Err.ensures.fault in
+    let may = open_fault c.requires.0 c.requires.1 c.args.log c.args.keeper c.requires.2 c.in-Err.field-0.2 c.in-Err.ensures.back.1 c.in-Err.field-0.0 c.in-Err.ensures.fault in
     search rules
 
 pub returns-in-Ok : goal.returns-in-Ok

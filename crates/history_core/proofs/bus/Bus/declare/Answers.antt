@@ -5,8 +5,8 @@ use Rattle.history_core.proofs.Sound.{declared, works_member}
 use Rattle.history_core.proofs.bus.Bus.declare.Goals as goal
 
 pub returns : goal.returns
-returns c =
-    let b : Parts = record { begun = c.self.inside.begun; source = c.self.inside.source; relay = c.self.inside.relay; boot = c.self.inside.boot; members = c.self.inside.members.items } in
+returns g c =
+    let b : Parts = record { begun = c.self.inside.begun; source = c.self.inside.source; relay = g.B.Buffer.relay c.self.inside.relay; boot = c.self.inside.boot; members = c.self.inside.members.items } in
     let h : IsSound b = subst IsSound (sym c.self.view_is) c.requires in
     let m = c.in_ok-new.field-0 in
     let new = c.in_ok-new.ensures b.source in

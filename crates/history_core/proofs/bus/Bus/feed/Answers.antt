@@ -7,17 +7,17 @@ use Rattle.history_core.proofs.Feeding.{next_front, next_follow}
 use Rattle.history_core.proofs.bus.Bus.feed.Goals as goal
 
 pub publish-requires : goal.publish-requires
-publish-requires c =
-    let b : Parts = record { begun = c.self.inside.begun; source = c.self.inside.source; relay = c.self.inside.relay; boot = c.self.inside.boot; members = c.self.inside.members.items } in
+publish-requires g c =
+    let b : Parts = record { begun = c.self.inside.begun; source = c.self.inside.source; relay = g.B.Buffer.relay c.self.inside.relay; boot = c.self.inside.boot; members = c.self.inside.members.items } in
     let h : IsSound b = subst IsSound (sym c.self.view_is) c.requires in
     let windows = c.first-next.ensures ∙ ap (take c.args.count) c.windows_after.ensures ∙ (λ i. take c.args.count (windows_between (c.tail.ensures.value i) (end_of b.source) b.source)) in
     next_follow b.source b.relay c.args.count c.first-next.result.now h.relay windows
 
 pub returns : goal.returns
-returns c =
-    let b : Parts = record { begun = c.self.inside.begun; source = c.self.inside.source; relay = c.self.inside.relay; boot = c.self.inside.boot; members = c.self.inside.members.items } in
+returns g c =
+    let b : Parts = record { begun = c.self.inside.begun; source = c.self.inside.source; relay = g.B.Buffer.relay c.self.inside.relay; boot = c.self.inside.boot; members = c.self.inside.members.items } in
     let h : IsSound b = subst IsSound (sym c.self.view_is) c.requires in
-    let r = c.publish.new.relay in
+    let r = g.B.Buffer.relay c.publish.new.relay in
     let windows = c.first-next.ensures ∙ ap (take c.args.count) c.windows_after.ensures ∙ (λ i. take c.args.count (windows_between (c.tail.ensures.value i) (end_of b.source) b.source)) in
     let front = next_front b.source b.relay.tail c.args.count c.first-next.result.now windows in
     let p = c.in_ok-publish.ensures in

@@ -4,6 +4,6 @@ use Rattle.history_core.proofs.Sound.{sound_new}
 use Rattle.history_core.proofs.bus.Bus.new.Goals as goal
 
 pub returns-clause-sound : goal.returns-clause-sound
-returns-clause-sound c =
-    let b : Parts = record { begun = false; source = c.new.result; relay = c.in_ok-new.field-0; boot = c.in_ok-new_boot.field-0; members = c.new-3.result.items } in
+returns-clause-sound g c =
+    let b : Parts = record { begun = false; source = c.new.result; relay = g.B.Buffer.relay c.in_ok-new.field-0; boot = c.in_ok-new_boot.field-0; members = c.new-3.result.items } in
     sound_new b c.args.bytes c.args.windows c.new.ensures c.in_ok-new.ensures c.in_ok-new_boot.ensures.booted c.new-3.ensures.items

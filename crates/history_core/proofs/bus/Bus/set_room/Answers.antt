@@ -4,10 +4,10 @@ use Rattle.history_core.proofs.Sound.{roomed, roomed_state, works_room}
 use Rattle.history_core.proofs.bus.Bus.set_room.Goals as goal
 
 pub returns : goal.returns
-returns c =
-    let b : Parts = record { begun = c.self.inside.begun; source = c.self.inside.source; relay = c.self.inside.relay; boot = c.self.inside.boot; members = c.self.inside.members.items } in
+returns g c =
+    let b : Parts = record { begun = c.self.inside.begun; source = c.self.inside.source; relay = g.B.Buffer.relay c.self.inside.relay; boot = c.self.inside.boot; members = c.self.inside.members.items } in
     let h : IsSound b = subst IsSound (sym c.self.view_is) c.requires.sound in
-    let r = c.in_ok-self-inside.field-0 in
+    let r = g.B.Buffer.relay c.in_ok-self-inside.field-0 in
     let fresh = c.if-self.false in
     let made = c.in_ok-self-inside.ensures in
     rw (← c.self.view_is) (
