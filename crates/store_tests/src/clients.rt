@@ -3,7 +3,7 @@ ghost use Rattle.bus_types.specs.Causes.{HasCause};
 ghost use Rattle.client_switch.specs.Client.{IsAskOf, asks};
 
 use bus_stores::{Keeper, MemoryKeeper};
-use bus_types::{Key, MarkText};
+use bus_types::{Count, Key, MarkText};
 use bus_wire::Ask;
 use checkpoint::Mark;
 use client_switch::{Client, ClientOpen, TakeFault, Took};
@@ -36,7 +36,7 @@ enum Seen {
 struct Recorder {
     seen: Vec<Seen>,
     refuse: Option<usize>,
-    refusals: u64,
+    refusals: Count,
 }
 
 impl Recorder {
@@ -44,7 +44,7 @@ impl Recorder {
         Recorder {
             seen: Vec::new(alloc),
             refuse,
-            refusals: 0,
+            refusals: Count::zero(),
         }
     }
 
@@ -53,7 +53,7 @@ impl Recorder {
     {
         let call = self.seen.len();
         if self.seen.push(seen).is_err() || self.refuse == Some(call) {
-            self.refusals = self.refusals.saturating_add(1);
+            self.refusals.raise();
             return Err(Refusal);
         }
         Ok(())

@@ -3,18 +3,18 @@ ghost use Rattle.bus_types.specs.Causes.{Rose};
 ghost use Rattle.bus_stores.specs.Keeper.{OnFailed};
 
 use bus_stores::{Keeper, StoreFault};
-use bus_types::{Change, Cursor, Key, MarkText, Payload, Rows};
+use bus_types::{Change, Count, Cursor, Key, MarkText, Payload, Rows};
 use std::alloc::Global;
 
 /// A keeper that tells nothing of the one inside, as one over a database does: only how often it failed.
 #[derive(Drop)]
 pub struct Quiet<K> {
     pub inner: K,
-    pub faults: u64,
+    pub faults: Count,
 }
 
 // Counts a fault, where there is one.
-fn counted<T>(faults: &mut u64, outcome: Result<T, StoreFault>) -> Result<T, StoreFault>
+fn counted<T>(faults: &mut Count, outcome: Result<T, StoreFault>) -> Result<T, StoreFault>
     ensures same { result ≡ outcome }
     ensures later { faults.old ≤ faults.new }
     ensures failed { OnFailed result (Rose faults.old faults.new) }
@@ -23,7 +23,7 @@ fn counted<T>(faults: &mut u64, outcome: Result<T, StoreFault>) -> Result<T, Sto
         Ok(value) => Ok(value),
         Err(StoreFault::NoMemory) => Err(StoreFault::NoMemory),
         Err(StoreFault::Failed) => {
-            *faults = faults.saturating_add(1);
+            faults.raise();
             Err(StoreFault::Failed)
         }
     }

@@ -3,25 +3,25 @@ ghost use Rattle.bus_types.specs.Causes.{Rose};
 ghost use Rattle.bus_stores.specs.Log.{OnLogFailed};
 
 use bus_stores::{LogFault, WindowLog};
-use bus_types::Window;
+use bus_types::{Count, Window};
 use std::alloc::Global;
 
 /// A log that tells neither the windows nor the room of the one inside, as one over files does, and counts its faults.
 #[derive(Drop)]
 pub struct QuietLog<G> {
     pub inner: G,
-    pub faults: u64,
+    pub faults: Count,
 }
 
 // Counts a fault, where there is one.
-fn counted<T>(faults: &mut u64, outcome: Result<T, LogFault>) -> Result<T, LogFault>
+fn counted<T>(faults: &mut Count, outcome: Result<T, LogFault>) -> Result<T, LogFault>
     ensures same { result ≡ outcome }
     ensures later { faults.old ≤ faults.new }
     ensures failed { OnLogFailed result (Rose faults.old faults.new) }
 {
     match outcome {
         Err(LogFault::Failed) => {
-            *faults = faults.saturating_add(1);
+            faults.raise();
             Err(LogFault::Failed)
         }
         Err(LogFault::Full) => Err(LogFault::Full),
