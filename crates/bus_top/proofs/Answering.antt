@@ -1,7 +1,5 @@
 -- What the relay answers, by what it has evicted and published.
-use Rattle.std.proofs.Common.{◌≡◌, ℕ, ◌+◌, ◌-◌, ◌<◌, ◌≤◌, inl, inr, Bool, true, false, cond, ◌==◌, ◌||◌, nat_lt, nat_le, List, [], ◌∷◌, length, map, Option, Some, None, option_map, refl, sym, ap, ◌∙◌, subst, arith}
-use Rattle.std.specs.Prelude.{IfSome}
-use Rattle.std.specs.Option.{option_and_then}
+use Rattle.std.proofs.Common.{◌≡◌, ℕ, ◌<◌, inl, inr, Bool, true, false, cond, ◌==◌, nat_lt, nat_le, List, [], ◌∷◌, length, map, Option, Some, None, option_map, refl, sym, ap, ◌∙◌, subst, arith}
 use Rattle.std.specs.List.{list_any, slice_get}
 use Rattle.std.proofs.lemmas.Bool.{or_cases, or_left, or_right, eqb-true, eq-eqb, ltb-true, ltb-false, leb-true, leb-false}
 use Rattle.std.proofs.lemmas.List.{length-map}
@@ -15,17 +13,16 @@ use Rattle.bus_types.specs.Relay.Served.{NotFound, Empty, TooSmall, Windows}
 use Rattle.bus_types.proofs.Stretches.{between_cases, between_none}
 use Rattle.bus_types.proofs.Runs.{longest_run_is, run_takes}
 use Rattle.partition_filter.specs.Selection.{Selection, test_of}
-use Rattle.checkpoint.specs.declared.mark.Mark.{Mark}
 use Rattle.checkpoint.specs.declared.mark.Mark.TheVariants.{Online}
 use Rattle.event_codec.specs.Questions.{Reply}
 use Rattle.bus_wire.specs.True.{reply_of}
-use Rattle.client_switch.specs.Moves.{Wish, question}
+use Rattle.client_switch.specs.Moves.{question}
 use Rattle.client_switch.specs.Moves.Wish.{NoWish}
 use Rattle.trace_script.specs.declared.line.Line.{Line}
 use Rattle.trace_script.specs.declared.line.Line.TheVariants.{Blank, Relay, Consumer, Commit, Feed, Log, Apply, Trim, RestartBoot, Poll, Crash, Stop, Show, Stream}
 use Rattle.trace_script.specs.Spelling.{is_in_range}
-use Rattle.history_core.specs.Script.{Follower, State, floor, stream_line}
-use Rattle.history_core.specs.Steps.{Step, begin, place_of, at_name_if, with_consumer, replied, is_followed, followed, after_reply, asked, poll_step, stream_step}
+use Rattle.history_core.specs.Script.{Follower, State, floor}
+use Rattle.history_core.specs.Steps.{Step, begin, place_of, at_name_if, with_consumer, replied, is_followed, after_reply, asked, poll_step, stream_step}
 use Rattle.history_core.specs.Run.{act, line_step}
 use Rattle.bus_top.specs.Headline.{evicted_after, published_after, IsAnswer, IsAnswered}
 use Rattle.bus_top.proofs.Placed.{IsPlaced}

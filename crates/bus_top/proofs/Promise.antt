@@ -1,10 +1,9 @@
 -- The headline, from the bus that is handed back and from the meaning of scripts.
-use Rattle.std.proofs.Common.{◌≡◌, ℕ, ◌≤◌, true, List, [], ◌∷◌, ◌++◌, Option, Some, None, take, drop, refl, sym, ap, ◌∙◌, subst}
+use Rattle.std.proofs.Common.{◌≡◌, ℕ, ◌≤◌, List, [], ◌∷◌, ◌++◌, Option, Some, None, take, drop, refl, sym, ap, ◌∙◌, subst}
 use Rattle.std.specs.Prelude.{IfSome}
 use Rattle.std.specs.List.{AllByRecursion}
 use Rattle.std.proofs.lemmas.List.{take-take, take-append-drop}
 use Rattle.bus_types.specs.Window.{Span}
-use Rattle.bus_types.specs.View.{view}
 use Rattle.partition_filter.specs.Selection.{test_of}
 use Rattle.checkpoint.specs.declared.mark.Mark.{Mark}
 use Rattle.checkpoint.specs.declared.mark.Mark.TheVariants.{Online}
@@ -12,7 +11,7 @@ use Rattle.bus_stores.specs.Memory.{last_mark}
 use Rattle.client_switch.specs.Good.{AreRight}
 use Rattle.trace_script.specs.Input.{RawLine, lines_of}
 use Rattle.history_core.specs.Script.{start}
-use Rattle.history_core.specs.Run.{Played, played, GoOn}
+use Rattle.history_core.specs.Run.{played, GoOn}
 use Rattle.history_core.specs.Bus.{MemberState, Parts, IsMember, IsSound}
 use Rattle.history_core.proofs.Members.{one_stored}
 use Rattle.history_core.proofs.Forward.{go_on_behind}

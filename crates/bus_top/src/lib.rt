@@ -7,9 +7,8 @@ mod call;
 mod session;
 mod status;
 
-use plain_buffer::PlainBuffer;
-
 pub use call::trace;
+use plain_buffer::PlainBuffer;
 pub use status::Status;
 
 /// The bus of a script, whose relay keeps its windows in a list.

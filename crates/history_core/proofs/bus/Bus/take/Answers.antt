@@ -1,4 +1,3 @@
-use Rattle.trace_script.specs.declared.line.Line.TheVariants.{Show}
 use Rattle.history_core.proofs.bus.Bus.take.Goals as goal
 
 pub returns-in-Show-clause-calls : goal.returns-in-Show-clause-calls
