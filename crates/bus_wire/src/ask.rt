@@ -19,9 +19,9 @@ pub enum Ask {
     },
     /// Where a bootstrap starts.
     Start {
-        /// The SCN that the client has come to.
+        /// The SCN at which the client's rows are the table, or stood before they were mixed: it may not fall behind it.
         since: u64,
-        /// Whether the client has nothing, so that only a snapshot helps.
+        /// Whether the client gives its rows up, so that only a snapshot helps.
         fresh: bool,
     },
 }

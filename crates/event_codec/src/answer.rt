@@ -25,7 +25,7 @@ pub enum Answer {
     Behind(u64),
     /// The log of a bootstrap begins later: the SCN where it begins.
     LogGone(u64),
-    /// The SCN where a delta begins.
+    /// The SCN that a delta goes to.
     StartDelta(u64),
     /// The SCN where a snapshot begins.
     StartSnapshot(u64),
