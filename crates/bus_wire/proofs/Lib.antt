@@ -3,3 +3,4 @@ pub mod Runs
 pub mod Walk
 pub mod Uniqueness
 pub mod Replies
+pub mod Reading

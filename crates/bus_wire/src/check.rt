@@ -2,13 +2,14 @@ ghost use Rattle.std.specs.Prelude.{◌≡◌, MatchOption, MatchResult, IfOk, I
 ghost use Rattle.event_codec.specs.Frames.{answer_bytes};
 ghost use Rattle.event_codec.specs.declared.reply.Shape.{Shape};
 ghost use Rattle.bus_wire.specs.Lawful.{IsLawful, IsFaultAt, IsAnswerTo, HasNoAnswer, EndsAt};
+ghost use Rattle.bus_wire.specs.Replies.{IsReply};
 ghost use Rattle.bus_wire.specs.Run.{BeginsWith};
 
 use crate::ask::Ask;
 use crate::fault::BadReply;
 use crate::run::check_windows;
 use bus_types::MAX_SCN;
-use event_codec::{Answer, Shape, answer_at};
+use event_codec::{Answer, ReplyView, Shape, answer_at};
 
 // The bytes of an answer.
 const ANSWER_SIZE: usize = 9;
@@ -61,4 +62,15 @@ pub fn check_reply(ask: &Ask, bytes: &[u8]) -> Result<Shape, BadReply>
         Some(answer) => check_answer(ask, answer, bytes),
         None => check_items(ask, bytes),
     }
+}
+
+/// The lawful reply to an ask that bytes are, read where it stands. `BadReply` comes exactly where [`check_reply`] says
+/// so, with its place. It takes no memory.
+pub fn read_reply<'a>(ask: &Ask, bytes: &'a [u8]) -> Result<ReplyView<'a>, BadReply>
+    ensures ok { IfOk result (λ reply. IsReply ask.now bytes.now reply) }
+    ensures place { IfErr result (λ fault. IsFaultAt ask.now bytes.now fault.place) }
+    ensures unlawful { IfErr result (λ _. (shape : Shape) → IsLawful ask.now bytes.now shape → ⊥) }
+{
+    let shape = check_reply(ask, bytes)?;
+    Ok(ReplyView::of(&shape, bytes))
 }

@@ -19,3 +19,4 @@ pub mod ItemsBack
 pub mod Parsings
 pub mod Lendings
 pub mod Replying
+pub mod Taking

@@ -9,6 +9,7 @@ use Rattle.std.proofs.lemmas.Nat.{from_be_bytes-to_be_bytes_8}
 use Rattle.bus_types.specs.declared.change.Change.{Change}
 use Rattle.bus_types.specs.Change.{AreChanges}
 use Rattle.bus_types.specs.Window.{Span}
+use Rattle.bus_types.specs.Timeline.{end_of}
 use Rattle.event_codec.specs.declared.answer.Answer.{Answer}
 use Rattle.event_codec.specs.declared.reply.Shape.{Shape}
 use Rattle.event_codec.specs.declared.reply.Shape.TheVariants as shapes
@@ -22,7 +23,7 @@ use Rattle.event_codec.specs.Questions.Reply.{Windows, Rows, Changes, Only}
 use Rattle.event_codec.specs.Forms.{run_bytes}
 use Rattle.event_codec.specs.Parsing.{events_bytes, events_of, AreEvents, HaveEvents, HaveWindows, AreWindows}
 use Rattle.event_codec.specs.ReplyViews.{view_of, IsRunOf, Spells, AreClosed}
-use Rattle.event_codec.proofs.Parsings.{events_spelled, events_within}
+use Rattle.event_codec.proofs.Parsings.{events_spelled, events_within, events_are, windows_are}
 
 -- ---- the closing frame
 
@@ -130,3 +131,29 @@ only_viewed shape bytes answer (Windows ws) is e = (let f = sym is.shaped ∙ e 
 only_viewed shape bytes answer (Rows cs n m) is e = (let f = sym is.shaped ∙ e in absurd cc)
 only_viewed shape bytes answer (Changes cs n m) is e = (let f = sym is.shaped ∙ e in absurd cc)
 only_viewed shape bytes answer (Only other) is e = (let f = sym is.shaped ∙ e in let same : other ≡ answer = cc in ap views.Only (sym same))
+
+-- ---- bytes of a shape are read in one way
+
+-- events before a closing frame are those that the front reads as
+closed_one : (es ds : List Event) (c d : Closing) (bytes : List ℕ) → AreClosed es c bytes → AreClosed ds d bytes → es ≡ ds
+closed_one es ds c d bytes one other =
+    sym (events_are es _ (closed_events es c bytes _ one refl)) ∙ events_are ds _ (closed_events ds d bytes _ other refl)
+
+closed_scn : (es ds : List Event) (c d : Closing) (bytes : List ℕ) → AreClosed es c bytes → AreClosed ds d bytes → c.scn ≡ d.scn
+closed_scn es ds c d bytes one other =
+    sym (from_be_bytes-to_be_bytes_8 c.scn (omega (arith, one.frame.scn)))
+    ∙ ap number (sym (last_nine es c bytes one) ∙ last_nine ds d bytes other)
+    ∙ from_be_bytes-to_be_bytes_8 d.scn (omega (arith, other.frame.scn))
+
+pub same_view : (shape : Shape) (bytes : List ℕ) (one other : Reply) → Spells shape bytes one → Spells shape bytes other → view_of one ≡ view_of other
+same_view shape bytes (Windows ws) other one two =
+    windows_viewed shape bytes (length ws) (end_of ws) ws other two one.shaped
+    (λ vs are. sym (windows_are ws bytes (record { within = one.formed; spelled = one.spelled })) ∙ windows_are vs bytes are)
+same_view shape bytes (Rows cs n more) other one two =
+    let closed = run_closed OfRows n cs more bytes one.formed one.spelled in
+    rows_viewed shape bytes (length cs) n more (events_of n cs) other two one.shaped (λ es c are. closed_one (events_of n cs) es _ c bytes closed are)
+same_view shape bytes (Changes cs n more) other one two =
+    let closed = run_closed OfChanges n cs more bytes one.formed one.spelled in
+    changes_viewed shape bytes (length cs) n more (events_of n cs) other two one.shaped (λ es c are. closed_one (events_of n cs) es _ c bytes closed are)
+    (λ es c are. closed_scn (events_of n cs) es _ c bytes closed are)
+same_view shape bytes (Only answer) other one two = only_viewed shape bytes answer other two one.shaped

@@ -127,6 +127,21 @@ abbrev pub behind_mark : List Span → List Span
 behind_mark [] = []
 behind_mark (w ∷ ws) = others_of w.changes w ws
 
+-- the events of the first window
+abbrev pub first_events : List Span → List Event
+first_events [] = []
+first_events (w ∷ ws) = window_events w
+
+-- the windows, of the first of which only its mark is left
+abbrev pub without_events : List Span → List Span
+without_events [] = []
+without_events (w ∷ ws) = record { scn = w.scn; prev = w.prev; changes = [] } ∷ ws
+
+-- the windows behind the first one
+abbrev pub others : List Span → List Span
+others [] = []
+others (w ∷ ws) = ws
+
 -- ---- a window where it stands
 
 abbrev pub window_read : Option (Span × List ℕ) → Span
