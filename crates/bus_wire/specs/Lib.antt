@@ -3,3 +3,6 @@ pub mod Served
 pub mod Run
 pub mod True
 pub mod Replies
+pub mod Wanted
+pub mod Walk
+pub mod Shaped
