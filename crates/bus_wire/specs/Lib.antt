@@ -6,3 +6,4 @@ pub mod Replies
 pub mod Wanted
 pub mod Walk
 pub mod Shaped
+pub mod Asks
