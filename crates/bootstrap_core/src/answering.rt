@@ -1,4 +1,4 @@
-ghost use Rattle.std.specs.Prelude.{◌≡◌, ◌≤◌, ◌<◌, ◌↔◌, ◌++◌, [], true, List, is_some, IfOk, IfErr, IfSome, OnErr, IsErrOf, ℕ};
+ghost use Rattle.std.specs.Prelude.{◌≡◌, ◌≤◌, ◌<◌, ◌↔◌, ◌++◌, [], true, List, is_some, nat_lt, IfOk, IfErr, IfSome, OnOk, OnErr, IsErrOf, ℕ};
 ghost use Rattle.bus_types.specs.declared.limits.TheConstants.{MAX_SCN};
 ghost use Rattle.bus_types.specs.Causes.{Rose};
 ghost use Rattle.bus_types.specs.Table.{table};
@@ -40,6 +40,13 @@ const FRAME: u32 = 10;
 /// The kind of the frame that closes changes.
 const CHANGES: u8 = 5;
 
+// Whether the log is not sure to have the windows behind an SCN.
+fn is_gone(mark: &BootMark, scn: u64) -> bool
+    ensures { result ≡ nat_lt scn mark.now.base }
+{
+    scn < mark.base
+}
+
 // Appends the next rows of the table that a scan asks for, or why there are none.
 fn scan<K: Keeper>(
     alloc: Global,
@@ -56,6 +63,7 @@ fn scan<K: Keeper>(
         IfSome (K.state keeper.new).content (λ c. c.rows ≡ table ws mark.now.applied) →
         IfOk result (λ shape. Appends (boot_reply ws (test_of filter.now) (record { base = mark.now.base; applied = mark.now.applied; high = high })
         (Question.Scan start cursor.now max)) shape reply.old.items reply.new.items) }
+    ensures front { OnOk result (Extends reply.old.items reply.new.items) }
     ensures err { OnErr result (reply.new.items ≡ reply.old.items) }
     ensures same { SameStore (K.state keeper.old) (K.state keeper.new) }
     ensures calls { BothTold (λ a b. a ≤ b) (K.state keeper.old).calls (K.state keeper.new).calls }
@@ -64,7 +72,7 @@ fn scan<K: Keeper>(
     ensures never_log { IsErrOf result BootFault.LogFailed → ⊥ }
     ensures never_halted { IsErrOf result BootFault.Halted → ⊥ }
 {
-    if start < mark.base {
+    if is_gone(mark, start) {
         return Ok(put_answer(&Answer::LogGone(mark.base), reply)?);
     }
     if mark.applied < start {
@@ -108,6 +116,7 @@ fn replay_log<G: WindowLog>(
     requires low { (G.state log.old).floor ≤ at }
     ensures reply { IfOk result (λ shape. IfSome (G.state log.old).windows (λ held.
         Appends (replay_of (G.state log.old).high max (cuts (test_of filter.now) (windows_between at target held))) shape reply.old.items reply.new.items)) }
+    ensures front { OnOk result (Extends reply.old.items reply.new.items) }
     ensures err { OnErr result (reply.new.items ≡ reply.old.items) }
     ensures same { SameLog (G.state log.old) (G.state log.new) }
     ensures faults { (G.state log.old).faults ≤ (G.state log.new).faults }
@@ -149,6 +158,7 @@ fn catch_up<G: WindowLog>(
     ensures reply { (ws : List Span) → HoldsStretch ws (G.state log.old) → TellsWindows (G.state log.old) →
         IfOk result (λ shape. Appends (boot_reply ws (test_of filter.now) (numbers (G.state log.old) mark.now) (Question.Catchup at target max))
         shape reply.old.items reply.new.items) }
+    ensures front { OnOk result (Extends reply.old.items reply.new.items) }
     ensures err { OnErr result (reply.new.items ≡ reply.old.items) }
     ensures same { SameLog (G.state log.old) (G.state log.new) }
     ensures faults { (G.state log.old).faults ≤ (G.state log.new).faults }
@@ -157,7 +167,7 @@ fn catch_up<G: WindowLog>(
     ensures never_halted { IsErrOf result BootFault.Halted → ⊥ }
 {
     let high = log.high();
-    if at < mark.base {
+    if is_gone(mark, at) {
         return Ok(put_answer(&Answer::LogGone(mark.base), reply)?);
     }
     if high < target {
@@ -170,6 +180,7 @@ fn catch_up<G: WindowLog>(
 fn put_no_changes(scn: u64, max: u32, reply: &mut Vec<u8>) -> Result<Shape, NoMemory>
     requires { scn ≤ MAX_SCN }
     ensures ok { IfOk result (λ shape. Appends (chunk_of (λ cs more. Changes cs scn more) max []) shape reply.old.items reply.new.items) }
+    ensures front { OnOk result (Extends reply.old.items reply.new.items) }
     ensures err { OnErr result (reply.new.items ≡ reply.old.items) }
 {
     if max < FRAME {
@@ -200,6 +211,7 @@ fn consolidate<G: WindowLog>(
     ensures reply { (ws : List Span) → HoldsStretch ws (G.state log.old) → TellsWindows (G.state log.old) →
         IfOk result (λ shape. Appends (boot_reply ws (test_of filter.now) (numbers (G.state log.old) mark.now) (Question.Delta since target cursor.now max))
         shape reply.old.items reply.new.items) }
+    ensures front { OnOk result (Extends reply.old.items reply.new.items) }
     ensures err { OnErr result (reply.new.items ≡ reply.old.items) }
     ensures same { SameLog (G.state log.old) (G.state log.new) }
     ensures faults { (G.state log.old).faults ≤ (G.state log.new).faults }
@@ -208,7 +220,7 @@ fn consolidate<G: WindowLog>(
     ensures never_halted { IsErrOf result BootFault.Halted → ⊥ }
 {
     let high = log.high();
-    if since < mark.base {
+    if is_gone(mark, since) {
         return Ok(put_answer(&Answer::LogGone(mark.base), reply)?);
     }
     if high < target {
@@ -247,6 +259,7 @@ impl<G: WindowLog, K: Keeper> Boot<G, K> {
             IfOk result (λ shape. Appends (boot_reply ws (test_in ask.now) (numbers (G.state self.old.log) self.old.mark) (question_of ask.now))
             shape reply.old.items reply.new.items) }
         ensures stands { (ws : List Span) → Stands ws (told G.state K.state self.old) → Stands ws (told G.state K.state self.new) }
+        ensures front { OnOk result (Extends reply.old.items reply.new.items) }
         ensures err { OnErr result (reply.new.items ≡ reply.old.items) }
         ensures halted { IsErrOf result BootFault.Halted ↔ (self.old.halted ≡ true) }
         ensures mark { self.new.mark ≡ self.old.mark }
@@ -320,6 +333,7 @@ impl<G: WindowLog, K: Keeper> Boot<G, K> {
     fn put_start(&self, since: u64, fresh: bool, reply: &mut Vec<u8>) -> Result<Shape, BootFault>
         ensures reply { (ws : List Span) (test : Test) →
             IfOk result (λ shape. Appends (boot_reply ws test (numbers (G.state self.now.log) self.now.mark) (Question.Start since fresh)) shape reply.old.items reply.new.items) }
+        ensures front { OnOk result (Extends reply.old.items reply.new.items) }
         ensures err { OnErr result (reply.new.items ≡ reply.old.items) }
         ensures memory { IfErr result (λ fault. fault ≡ BootFault.NoMemory) }
     {
@@ -331,6 +345,7 @@ impl<G: WindowLog, K: Keeper> Boot<G, K> {
     fn put_target(&self, start: u64, atleast: u64, reply: &mut Vec<u8>) -> Result<Shape, BootFault>
         ensures reply { (ws : List Span) (test : Test) →
             IfOk result (λ shape. Appends (boot_reply ws test (numbers (G.state self.now.log) self.now.mark) (Question.Target start atleast)) shape reply.old.items reply.new.items) }
+        ensures front { OnOk result (Extends reply.old.items reply.new.items) }
         ensures err { OnErr result (reply.new.items ≡ reply.old.items) }
         ensures memory { IfErr result (λ fault. fault ≡ BootFault.NoMemory) }
     {

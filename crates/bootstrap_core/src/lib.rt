@@ -11,7 +11,9 @@ mod first;
 mod logging;
 mod moving;
 mod replaying;
+mod replies;
 
 pub use boot::Boot;
 pub use bus_stores::BootFault;
 pub use fault::{BootOpen, TakeLog};
+pub use replies::Replies;

@@ -140,6 +140,7 @@ pub(crate) fn take_windows<G: WindowLog>(
 pub(crate) fn put_answer(answer: &Answer, reply: &mut Vec<u8>) -> Result<Shape, NoMemory>
     requires { answer_number answer.now ≤ MAX_SCN }
     ensures ok { IfOk result (λ shape. Appends (Only answer.now) shape reply.old.items reply.new.items) }
+    ensures front { OnOk result (Extends reply.old.items reply.new.items) }
     ensures err { OnErr result (reply.new.items ≡ reply.old.items) }
 {
     reply.extend_from_slice(&answer_bytes(answer))?;
