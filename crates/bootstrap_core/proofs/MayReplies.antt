@@ -1,12 +1,12 @@
 -- What a bootstrap appended may be its reply.
 use Rattle.std.specs.Prelude.{Result, Ok, Err, IfOk}
-use Rattle.std.proofs.Common.{◌≡◌, ℕ, List, [], ◌∷◌, ◌++◌, Option, Some, None, IfSome, is_some, true, true≢false, refl, sym, ap, subst, ◌∙◌, arith}
+use Rattle.std.proofs.Common.{◌≡◌, ℕ, List, [], ◌∷◌, ◌++◌, Option, Some, None, IfSome, is_some, true, true≢false, sym, ap, subst, ◌∙◌}
 use Rattle.bus_types.specs.Window.{Span}
 use Rattle.bus_types.specs.Timeline.{IsTimeline}
 use Rattle.event_codec.specs.declared.reply.Shape.{Shape}
 use Rattle.event_codec.specs.Forms.{bytes_of}
 use Rattle.bus_wire.specs.declared.ask.Ask.{Ask}
-use Rattle.bus_wire.specs.Asks.{question_of, test_in, IsAsk, AsksBootstrap}
+use Rattle.bus_wire.specs.Asks.{question_of, test_in, AsksBootstrap}
 use Rattle.bus_wire.specs.Booted.{IsLimited, IsLawfullyBooted}
 use Rattle.bus_wire.specs.True.{boot_reply}
 use Rattle.bus_wire.proofs.Booting.{boots_lawfully}
@@ -15,7 +15,7 @@ use Rattle.bus_stores.specs.Log.{LogState, SameLog}
 use Rattle.snapshot_applier.specs.declared.boot.BootMark.{BootMark}
 use Rattle.snapshot_scan.specs.Chunk.{Appends}
 use Rattle.bootstrap_core.specs.Boot.{BootState, HoldsTable, numbers, Stands, StandsForBoot}
-use Rattle.bootstrap_core.specs.Answering.{IsTold, IsReplyTo, MayReply}
+use Rattle.bootstrap_core.specs.Answering.{IsTold, MayReply}
 
 same_front : (before a b : List ℕ) → before ++ a ≡ before ++ b → a ≡ b
 same_front [] a b e = e

@@ -1,4 +1,4 @@
-ghost use Rattle.std.specs.Prelude.{◌≡◌, ◌≤◌, ◌<◌, ◌↔◌, ◌++◌, [], true, List, is_some, nat_lt, IfOk, IfErr, IfSome, OnOk, OnErr, IsErrOf, ℕ};
+ghost use Rattle.std.specs.Prelude.{◌≡◌, ◌≤◌, ◌<◌, ◌↔◌, ◌++◌, [], true, false, List, is_some, nat_lt, IfOk, IfErr, IfSome, OnOk, OnErr, IsErrOf, ℕ};
 ghost use Rattle.bus_types.specs.declared.limits.TheConstants.{MAX_SCN};
 ghost use Rattle.bus_types.specs.Causes.{Rose};
 ghost use Rattle.bus_types.specs.Table.{table};
@@ -13,7 +13,7 @@ ghost use Rattle.partition_filter.specs.Selection.{test_of};
 ghost use Rattle.bus_wire.specs.Asks.{question_of, test_in, AsksBootstrap};
 ghost use Rattle.bus_wire.specs.True.{Boot as Numbers, boot_reply, replay_of};
 ghost use Rattle.bus_stores.specs.Keeper.{BothTold, SameStore};
-ghost use Rattle.bus_stores.specs.Log.{SameLog};
+ghost use Rattle.bus_stores.specs.Log.{SameLog, at_rest};
 ghost use Rattle.snapshot_applier.specs.BootMark.{IsBootMark};
 ghost use Rattle.snapshot_scan.specs.Chunk.{Appends};
 ghost use Rattle.snapshot_scan.specs.Filling.{Extends};
@@ -93,8 +93,10 @@ fn append_replay<G: WindowLog>(
 ) -> Result<Shape, LogFault>
     requires low { (G.state log.old).floor ≤ at }
     ensures reads { OnlyReadsLog (G.state log.old) (G.state log.new) result }
+    ensures crash { IfSome (G.state log.old).windows (λ ws. G.passes ws (at_rest (G.state log.old)) log.old log.new) }
     ensures reply { IfOk result (λ shape. IfSome (G.state log.old).windows (λ held.
-        Appends (replay_of (G.state log.old).high max (cuts (test_of filter.now) (windows_between at target held))) shape reply.old.items reply.new.items)) }
+        Appends (replay_of (G.state log.old).high max (cuts (test_of filter.now) (windows_between at target held)))
+        shape reply.old.items reply.new.items)) }
     ensures front { Extends reply.old.items reply.new.items }
 {
     let high = log.high();
@@ -115,10 +117,12 @@ fn replay_log<G: WindowLog>(
 ) -> Result<Shape, BootFault>
     requires low { (G.state log.old).floor ≤ at }
     ensures reply { IfOk result (λ shape. IfSome (G.state log.old).windows (λ held.
-        Appends (replay_of (G.state log.old).high max (cuts (test_of filter.now) (windows_between at target held))) shape reply.old.items reply.new.items)) }
+        Appends (replay_of (G.state log.old).high max (cuts (test_of filter.now) (windows_between at target held)))
+        shape reply.old.items reply.new.items)) }
     ensures front { OnOk result (Extends reply.old.items reply.new.items) }
     ensures err { OnErr result (reply.new.items ≡ reply.old.items) }
     ensures same { SameLog (G.state log.old) (G.state log.new) }
+    ensures crash { IfSome (G.state log.old).windows (λ ws. G.passes ws (at_rest (G.state log.old)) log.old log.new) }
     ensures faults { (G.state log.old).faults ≤ (G.state log.new).faults }
     ensures failed { IsErrOf result BootFault.LogFailed → Rose (G.state log.old).faults (G.state log.new).faults }
     ensures never_store { IsErrOf result BootFault.StoreFailed → ⊥ }
@@ -161,6 +165,7 @@ fn catch_up<G: WindowLog>(
     ensures front { OnOk result (Extends reply.old.items reply.new.items) }
     ensures err { OnErr result (reply.new.items ≡ reply.old.items) }
     ensures same { SameLog (G.state log.old) (G.state log.new) }
+    ensures crash { IfSome (G.state log.old).windows (λ ws. G.passes ws (at_rest (G.state log.old)) log.old log.new) }
     ensures faults { (G.state log.old).faults ≤ (G.state log.new).faults }
     ensures failed { IsErrOf result BootFault.LogFailed → Rose (G.state log.old).faults (G.state log.new).faults }
     ensures never_store { IsErrOf result BootFault.StoreFailed → ⊥ }
@@ -209,11 +214,13 @@ fn consolidate<G: WindowLog>(
     requires lawful { IsBootMark mark.now }
     requires low { (G.state log.old).floor ≤ mark.now.base }
     ensures reply { (ws : List Span) → HoldsStretch ws (G.state log.old) → TellsWindows (G.state log.old) →
-        IfOk result (λ shape. Appends (boot_reply ws (test_of filter.now) (numbers (G.state log.old) mark.now) (Question.Delta since target cursor.now max))
+        IfOk result (λ shape. Appends (boot_reply ws (test_of filter.now) (numbers (G.state log.old) mark.now)
+        (Question.Delta since target cursor.now max))
         shape reply.old.items reply.new.items) }
     ensures front { OnOk result (Extends reply.old.items reply.new.items) }
     ensures err { OnErr result (reply.new.items ≡ reply.old.items) }
     ensures same { SameLog (G.state log.old) (G.state log.new) }
+    ensures crash { IfSome (G.state log.old).windows (λ ws. G.passes ws (at_rest (G.state log.old)) log.old log.new) }
     ensures faults { (G.state log.old).faults ≤ (G.state log.new).faults }
     ensures failed { IsErrOf result BootFault.LogFailed → Rose (G.state log.old).faults (G.state log.new).faults }
     ensures never_store { IsErrOf result BootFault.StoreFailed → ⊥ }
@@ -245,7 +252,7 @@ impl<G: WindowLog, K: Keeper> Boot<G, K> {
     ///
     /// `Halted` comes exactly after a fault of log or keeper in `take_log`, `apply` or `trim`. `LogFailed` and `StoreFailed` come
     /// only where that one's count of faults rose, and halt nothing here. After a fault the reply is as before. But for the counts,
-    /// log, keeper and boot mark always are.
+    /// log, keeper and boot mark always are. A crash meanwhile leaves the log's windows that were told.
     pub fn answer(
         &mut self,
         alloc: Global,
@@ -271,10 +278,12 @@ impl<G: WindowLog, K: Keeper> Boot<G, K> {
         ensures calls { BothTold (λ a b. a ≤ b) (K.state self.old.keeper).calls (K.state self.new.keeper).calls }
         ensures log { IsErrOf result BootFault.LogFailed → Rose (G.state self.old.log).faults (G.state self.new.log).faults }
         ensures store { IsErrOf result BootFault.StoreFailed → Rose (K.state self.old.keeper).faults (K.state self.new.keeper).faults }
+        ensures crash { self.old.halted ≡ false → IfSome (G.state self.old.log).windows (λ ws. G.passes ws (at_rest (G.state self.old.log)) self.old.log self.new.log) }
     {
         if self.halted {
             return Err(BootFault::Halted);
         }
+        let _rests = self.log.high();
         match ask {
             Ask::Stream { .. } => unreachable!(),
             Ask::Start { since, fresh } => self.put_start(*since, *fresh, reply),
@@ -332,7 +341,8 @@ impl<G: WindowLog, K: Keeper> Boot<G, K> {
     // Appends how a consumer is to start.
     fn put_start(&self, since: u64, fresh: bool, reply: &mut Vec<u8>) -> Result<Shape, BootFault>
         ensures reply { (ws : List Span) (test : Test) →
-            IfOk result (λ shape. Appends (boot_reply ws test (numbers (G.state self.now.log) self.now.mark) (Question.Start since fresh)) shape reply.old.items reply.new.items) }
+            IfOk result (λ shape. Appends (boot_reply ws test (numbers (G.state self.now.log) self.now.mark) (Question.Start since fresh))
+            shape reply.old.items reply.new.items) }
         ensures front { OnOk result (Extends reply.old.items reply.new.items) }
         ensures err { OnErr result (reply.new.items ≡ reply.old.items) }
         ensures memory { IfErr result (λ fault. fault ≡ BootFault.NoMemory) }
@@ -344,7 +354,8 @@ impl<G: WindowLog, K: Keeper> Boot<G, K> {
     // Appends up to where a scan is to be replayed.
     fn put_target(&self, start: u64, atleast: u64, reply: &mut Vec<u8>) -> Result<Shape, BootFault>
         ensures reply { (ws : List Span) (test : Test) →
-            IfOk result (λ shape. Appends (boot_reply ws test (numbers (G.state self.now.log) self.now.mark) (Question.Target start atleast)) shape reply.old.items reply.new.items) }
+            IfOk result (λ shape. Appends (boot_reply ws test (numbers (G.state self.now.log) self.now.mark) (Question.Target start atleast))
+            shape reply.old.items reply.new.items) }
         ensures front { OnOk result (Extends reply.old.items reply.new.items) }
         ensures err { OnErr result (reply.new.items ≡ reply.old.items) }
         ensures memory { IfErr result (λ fault. fault ≡ BootFault.NoMemory) }

@@ -59,7 +59,12 @@ impl<G: WindowLog, K: Keeper> Replies for Boot<G, K> {
     /// Where log and keeper tell their content: a lawful reply, or, to a catch-up over no window, that it has come so far.
     ghost may = { λ b ask bytes. MayReply (told G.state K.state b) ask bytes };
 
-    fn answer(&mut self, alloc: Global, ask: &Ask, reply: &mut Vec<u8>) -> Result<Shape, BootFault> {
+    fn answer(
+        &mut self,
+        alloc: Global,
+        ask: &Ask,
+        reply: &mut Vec<u8>,
+    ) -> Result<Shape, BootFault> {
         limited(ask);
         self.answer(alloc, ask, reply)
     }
