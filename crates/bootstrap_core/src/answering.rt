@@ -284,6 +284,7 @@ impl<G: WindowLog, K: Keeper> Boot<G, K> {
             return Err(BootFault::Halted);
         }
         let _rests = self.log.high();
+        let mark = self.mark;
         match ask {
             Ask::Stream { .. } => unreachable!(),
             Ask::Start { since, fresh } => self.put_start(*since, *fresh, reply),
@@ -296,7 +297,7 @@ impl<G: WindowLog, K: Keeper> Boot<G, K> {
             } => scan(
                 alloc,
                 &mut self.keeper,
-                &self.mark,
+                &mark,
                 *start,
                 cursor,
                 filter,
@@ -311,7 +312,7 @@ impl<G: WindowLog, K: Keeper> Boot<G, K> {
             } => catch_up(
                 alloc,
                 &mut self.log,
-                &self.mark,
+                &mark,
                 *at,
                 *target,
                 filter,
@@ -327,7 +328,7 @@ impl<G: WindowLog, K: Keeper> Boot<G, K> {
             } => consolidate(
                 alloc,
                 &mut self.log,
-                &self.mark,
+                &mark,
                 *since,
                 *target,
                 cursor,
