@@ -1,6 +1,7 @@
 -- What a bootstrap appended may be its reply.
-use Rattle.std.specs.Prelude.{Result, Ok, Err, IfOk}
-use Rattle.std.proofs.Common.{◌≡◌, ℕ, List, [], ◌∷◌, ◌++◌, Option, Some, None, IfSome, is_some, true, true≢false, sym, ap, subst, ◌∙◌}
+use Rattle.std.specs.Prelude.{Result, Ok, Err, IfOk, IfErr, IsErrOf}
+use Rattle.std.proofs.Common.{◌≡◌, ℕ, List, [], ◌∷◌, ◌++◌, Option, Some, None, IfSome, is_some, true, true≢false, refl, sym, ap, subst, ◌∙◌}
+use Rattle.bus_types.specs.Causes.{Rose}
 use Rattle.bus_types.specs.Window.{Span}
 use Rattle.bus_types.specs.Timeline.{IsTimeline}
 use Rattle.event_codec.specs.declared.reply.Shape.{Shape}
@@ -10,12 +11,14 @@ use Rattle.bus_wire.specs.Asks.{question_of, test_in, AsksBootstrap}
 use Rattle.bus_wire.specs.Booted.{IsLimited, IsLawfullyBooted}
 use Rattle.bus_wire.specs.True.{boot_reply}
 use Rattle.bus_wire.proofs.Booting.{boots_lawfully}
+use Rattle.bus_stores.specs.declared.boot_fault.BootFault.{BootFault}
+use Rattle.bus_stores.specs.declared.boot_fault.BootFault.TheVariants.{LogFailed, StoreFailed, Halted, NoMemory}
 use Rattle.bus_stores.specs.Keeper.{KeeperState, Content, TellsOnly, SameStore}
 use Rattle.bus_stores.specs.Log.{LogState, SameLog}
 use Rattle.snapshot_applier.specs.declared.boot.BootMark.{BootMark}
 use Rattle.snapshot_scan.specs.Chunk.{Appends}
 use Rattle.bootstrap_core.specs.Boot.{BootState, HoldsTable, numbers, Stands, StandsForBoot}
-use Rattle.bootstrap_core.specs.Answering.{IsTold, MayReply}
+use Rattle.bootstrap_core.specs.Answering.{IsTold, MayReply, FailsTo}
 
 same_front : (before a b : List ℕ) → before ++ a ≡ before ++ b → a ≡ b
 same_front [] a b e = e
@@ -65,3 +68,14 @@ pub may_result : {E : Type 0} (old new : BootState) (ask : Ask) (result : Result
     → IfOk result (λ shape. (bytes : List ℕ) → after ≡ before ++ bytes → MayReply new ask bytes)
 may_result old new ask (Ok shape) before after log store mark limited mine replied = λ bytes e. may_reply old new ask shape before after bytes log store mark limited mine replied e
 may_result old new ask (Err fault) before after log store mark limited mine replied = tt
+
+-- ---- faults
+
+-- what a call's clauses say of each fault
+pub fails_to : {X : Type 0} (old new : BootState) (result : Result X BootFault) → (IsErrOf result LogFailed → Rose old.log.faults new.log.faults) → (IsErrOf result StoreFailed → Rose old.keeper.faults new.keeper.faults)
+    → (IsErrOf result Halted → old.halted ≡ true) → IfErr result (λ fault. FailsTo fault old new)
+fails_to old new (Ok x) log store halted = tt
+fails_to old new (Err LogFailed) log store halted = log refl
+fails_to old new (Err StoreFailed) log store halted = store refl
+fails_to old new (Err Halted) log store halted = halted refl
+fails_to old new (Err NoMemory) log store halted = tt

@@ -1,5 +1,6 @@
 -- What a bootstrap may reply to an ask.
 use Rattle.std.specs.Prelude.{◌≡◌, ℕ, true, List, is_some}
+use Rattle.bus_types.specs.Causes.{Rose}
 use Rattle.bus_types.specs.Window.{Span}
 use Rattle.bus_types.specs.Timeline.{IsTimeline}
 use Rattle.event_codec.specs.Questions.{Reply}
@@ -8,6 +9,8 @@ use Rattle.bus_wire.specs.declared.ask.Ask.{Ask}
 use Rattle.bus_wire.specs.declared.ask.Ask.TheVariants as asks
 use Rattle.bus_wire.specs.Asks.{IsAsk}
 use Rattle.bus_wire.specs.Booted.{IsLawfullyBooted}
+use Rattle.bus_stores.specs.declared.boot_fault.BootFault.{BootFault}
+use Rattle.bus_stores.specs.declared.boot_fault.BootFault.TheVariants.{LogFailed, StoreFailed, Halted, NoMemory}
 use Rattle.bootstrap_core.specs.Boot.{BootState, Stands}
 
 -- log and keeper tell their content
@@ -25,6 +28,13 @@ pub record IsReplyTo (ws : List Span) (high : ℕ) (ask : Ask) (bytes : List ℕ
 -- timeline for which it stands
 abbrev pub MayReply : BootState → Ask → List ℕ → Type 0
 MayReply b ask bytes = (ws : List Span) → IsTimeline ws → Stands ws b → IsTold b → IsAsk ask → IsReplyTo ws b.log.high ask bytes
+
+-- what a fault says of a bootstrap before it answers and after
+abbrev pub FailsTo : BootFault → BootState → BootState → Type 0
+FailsTo LogFailed old new = Rose old.log.faults new.log.faults
+FailsTo StoreFailed old new = Rose old.keeper.faults new.keeper.faults
+FailsTo Halted old new = old.halted ≡ true
+FailsTo NoMemory old new = Unit {0}
 
 -- ---- the code's words
 

@@ -1,4 +1,5 @@
 ghost use Rattle.std.specs.Prelude.{◌≡◌, ◌++◌, Bool, true, false, List, ℕ, IfOk, IfErr, OnOk, OnErr};
+ghost use Rattle.bus_stores.specs.declared.boot_fault.BootFault.{BootFault as FaultValue};
 ghost use Rattle.bus_wire.specs.declared.ask.Ask.{Ask as AskValue};
 ghost use Rattle.bus_wire.specs.Asks.{AsksBootstrap};
 ghost use Rattle.bus_wire.specs.Booted.{IsLimited};
@@ -12,11 +13,14 @@ use std::alloc::Global;
 
 /// Who answers the asks that aren't for a stream.
 ///
-/// Each type names, for contracts alone, which bytes its reply to an ask may be, in the state that stands after it. A type
-/// may be sure: then want of memory is the only fault of its replies.
+/// Each type names, for contracts alone, which bytes its reply to an ask may be, in the state that stands after it, and what a
+/// fault says of it. A type may be sure: then want of memory is the only fault of its replies.
 pub trait Replies {
     /// Which bytes its reply to an ask may be.
     ghost may: { Self → AskValue → List ℕ → Type 0 };
+
+    /// What a fault says of it before the call and after.
+    ghost fails: { FaultValue → Self → Self → Type 0 } = { λ _ _ _. Unit {0} };
 
     /// Whether it is sure.
     ghost sure: { Bool } = { false };
@@ -27,6 +31,7 @@ pub trait Replies {
         ensures reply { IfOk result (λ shape. (bytes : List ℕ) → reply.new.items ≡ reply.old.items ++ bytes → may self.new ask.now bytes) }
         ensures front { OnOk result (Extends reply.old.items reply.new.items) }
         ensures err { OnErr result (reply.new.items ≡ reply.old.items) }
+        ensures fault { IfErr result (λ fault. fails fault self.old self.new) }
         ensures sure { sure ≡ true → IfErr result (λ fault. fault ≡ BootFault.NoMemory) };
 }
 
@@ -54,10 +59,13 @@ fn limited(ask: &Ask)
 
 impl<G: WindowLog, K: Keeper> Replies for Boot<G, K> {
     ghost use Rattle.bootstrap_core.specs.Boot.{told};
-    ghost use Rattle.bootstrap_core.specs.Answering.{MayReply};
+    ghost use Rattle.bootstrap_core.specs.Answering.{MayReply, FailsTo};
 
     /// Where log and keeper tell their content: a lawful reply, or, to a catch-up over no window, that it has come so far.
     ghost may = { λ b ask bytes. MayReply (told G.state K.state b) ask bytes };
+
+    /// A fault of log or keeper comes only where that one's count rose, and `Halted` only after an earlier one.
+    ghost fails = { λ fault old new. FailsTo fault (told G.state K.state old) (told G.state K.state new) };
 
     fn answer(
         &mut self,

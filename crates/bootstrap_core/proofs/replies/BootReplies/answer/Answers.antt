@@ -1,5 +1,5 @@
 use Rattle.bootstrap_core.specs.Boot.{told}
-use Rattle.bootstrap_core.proofs.MayReplies.{may_result}
+use Rattle.bootstrap_core.proofs.MayReplies.{may_result, fails_to}
 use Rattle.bootstrap_core.proofs.replies.BootReplies.answer.Goals as goal
 
 pub returns-clause-reply : goal.returns-clause-reply
@@ -8,3 +8,9 @@ returns-clause-reply g c =
     let after = c.answer.ensures in
     may_result (state c.args.self.now) (state c.answer.new.self) c.args.ask.now c.answer.result c.args.reply.now.items c.answer.new.reply.items
     after.same_log after.same_store after.mark c.limited.ensures c.requires.bootstrap after.reply
+
+pub returns-clause-fault : goal.returns-clause-fault
+returns-clause-fault g c =
+    let state = told g.G.WindowLog.state g.K.Keeper.state in
+    let after = c.answer.ensures in
+    fails_to (state c.args.self.now) (state c.answer.new.self) c.answer.result after.log after.store after.halted.0
