@@ -1,6 +1,6 @@
 -- What a lawful reply to an ask of a client is to its mark.
 use Rattle.std.proofs.Common.{◌≡◌, ℕ, ◌<◌, ◌≤◌, Bool, true, false, List, [], ◌∷◌, length, true≢false, refl, sym, subst, arith}
-use Rattle.std.specs.Prelude.{IsTrue, flat_map}
+use Rattle.std.specs.Prelude.{IsTrue}
 use Rattle.std.specs.List.{AllByRecursion}
 use Rattle.std.proofs.lemmas.Bool.{ltb-true}
 use Rattle.bus_types.specs.declared.limits.TheConstants.{MAX_SCN}
@@ -19,9 +19,11 @@ use Rattle.checkpoint.specs.Mark.{floor_of}
 use Rattle.bus_wire.specs.declared.ask.Ask.{Ask}
 use Rattle.bus_wire.specs.declared.ask.Ask.TheVariants.{Stream as StreamAsk, Start as StartAsk}
 use Rattle.bus_wire.specs.Lawful.{IsLawful, IsAnswerTo, IsAskedFor, HoldsRun, after_floor, stream_answers, start_answers}
-use Rattle.dispatcher.specs.Callbacks.{Callback, Describes, window_calls, answer_calls}
-use Rattle.dispatcher.specs.Telling.{AreAll}
+use Rattle.dispatcher.specs.Callbacks.{Callback, reply_calls, Describes}
+use Rattle.event_codec.specs.Parsing.{AreWindows}
 use Rattle.event_codec.specs.Questions.{Reply}
+use Rattle.event_codec.specs.ReplyViews.{view_of}
+use Rattle.bus_wire.proofs.Reading.{lawful_read}
 use Rattle.client_switch.specs.Moves.{Wish, IsWished, question}
 use Rattle.client_switch.specs.Moves.Wish.{NoWish, StartWish, FreshWish}
 use Rattle.event_codec.specs.Questions.Reply.{Windows, Only}
@@ -62,7 +64,7 @@ ends_below : (top n : ℕ) (filter : Selection) (ws : List Span) → n ≤ top �
 ends_below top n filter [] low each = low
 ends_below top n filter (w ∷ ws) low each = ends_below top w.scn filter ws each.0.below each.1
 
-all_of : (floor top : ℕ) (filter : Selection) (bytes : List ℕ) (count last : ℕ) (h : HoldsRun floor top filter bytes count last) → AreAll h.windows bytes
+all_of : (floor top : ℕ) (filter : Selection) (bytes : List ℕ) (count last : ℕ) (h : HoldsRun floor top filter bytes count last) → AreWindows h.windows bytes
 all_of floor top filter bytes count last h = record { within = spans (after_floor floor) h.windows h.run.asked.come; spelled = h.spelled }
 
 follow : (scn : ℕ) (filter : Selection) (bytes : List ℕ) (count last : ℕ) → HoldsRun scn MAX_SCN filter bytes count last → CanFollow (Online scn) count last bytes
@@ -125,11 +127,6 @@ can_come mark wish filter most ask bytes shape is lawful =
 
 -- ---- what a lawful reply is
 
-run_described : (floor top : ℕ) (filter : Selection) (bytes : List ℕ) (count last : ℕ) → HoldsRun floor top filter bytes count last → (callbacks : List Callback) × Describes (shapes.Windows count last) bytes callbacks
-run_described floor top filter bytes count last h =
-    let all = all_of floor top filter bytes count last h in
-    (flat_map window_calls h.windows, record { windows = h.windows; within = all.within; spelled = all.spelled; count = h.counted; last = h.ends; told = refl })
-
 run_read : (floor top : ℕ) (filter : Selection) (bytes : List ℕ) (count last : ℕ) → HoldsRun floor top filter bytes count last → (r : Reply) × IsReply (shapes.Windows count last) bytes r
 run_read floor top filter bytes count last h =
     let are : AreTheWindows count last bytes h.windows = record { all = all_of floor top filter bytes count last h; counted = h.counted; ends = h.ends } in
@@ -137,11 +134,7 @@ run_read floor top filter bytes count last h =
 
 -- it has callbacks
 pub described : (ask : Ask) (bytes : List ℕ) (shape : Shape) → IsLawful ask bytes shape → (callbacks : List Callback) × Describes shape bytes callbacks
-described (StreamAsk scn filter most) bytes (shapes.Windows count last) is = run_described scn MAX_SCN filter bytes count last is
-described (StartAsk since fresh) bytes (shapes.Windows count last) is = absurd is
-described ask bytes (shapes.Rows count scn more) is = absurd is
-described ask bytes (shapes.Changes count more) is = absurd is
-described ask bytes (shapes.Only answer) is = (answer_calls answer, record { within = is.1.within; spelled = is.0; told = refl })
+described ask bytes shape is = let spelled = lawful_read ask bytes shape is in (reply_calls (view_of spelled.0), record { reply = spelled.0; spells = spelled.1; told = refl })
 
 -- it is a reply
 pub read : (ask : Ask) (bytes : List ℕ) (shape : Shape) → IsLawful ask bytes shape → (r : Reply) × IsReply shape bytes r

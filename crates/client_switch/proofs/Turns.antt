@@ -11,7 +11,7 @@ use Rattle.event_codec.specs.declared.reply.Shape.TheVariants as shapes
 use Rattle.checkpoint.specs.declared.mark.Mark.{Mark}
 use Rattle.checkpoint.specs.declared.mark.Mark.TheVariants.{Online, Delta, Snapshot, Scanned, Catchup}
 use Rattle.checkpoint.specs.Mark.{IsMark, floor_of}
-use Rattle.dispatcher.specs.Telling.{AreAll}
+use Rattle.event_codec.specs.Parsing.{AreWindows}
 use Rattle.event_codec.specs.Questions.{Reply}
 use Rattle.client_switch.specs.Moves.{Turn, go, changes_of, turn}
 use Rattle.event_codec.specs.Questions.Reply.{Windows, Only}
@@ -28,7 +28,7 @@ ends_at n count last bytes ws some are = are.ends ∙ sym (ends_same n ws (omega
 
 -- the turn of windows, as the code makes it
 pub windows_turned : (mark : Mark) (shape : Shape) (count last : ℕ) (bytes : List ℕ) (changes : List Change) (made : Turn) (r : Reply) → shape ≡ shapes.Windows count last → CanCome mark shape bytes
-    → ((ws : List Span) → AreAll ws bytes → changes ≡ changes_of ws) → made ≡ go (Online last) false changes → IsReply shape bytes r → made ≡ turn mark r
+    → ((ws : List Span) → AreWindows ws bytes → changes ≡ changes_of ws) → made ≡ go (Online last) false changes → IsReply shape bytes r → made ≡ turn mark r
 windows_turned mark shape count last bytes changes made r same comes changed turned is =
     let can : CanFollow mark count last bytes = subst (λ (x : Shape). CanCome mark x bytes) same comes in
     let read : IsReply (shapes.Windows count last) bytes r = subst (λ (x : Shape). IsReply x bytes r) same is in

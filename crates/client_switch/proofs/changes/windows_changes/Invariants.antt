@@ -1,11 +1,11 @@
-use Rattle.std.proofs.Common.{List, [], length}
+use Rattle.std.proofs.Common.{◌≡◌, ◌++◌, List, length}
 use Rattle.bus_types.specs.Window.{Span}
-use Rattle.dispatcher.specs.Telling.{AreAll}
-use Rattle.client_switch.specs.Turning.{Goes}
+use Rattle.event_codec.specs.Parsing.{AreWindows}
+use Rattle.client_switch.specs.Moves.{changes_of}
 use Rattle.client_switch.proofs.changes.windows_changes.Given as goal
 
-abbrev pub invariant-loop-rest : goal.invariant-loop-rest
-invariant-loop-rest l = (windows : List Span) → AreAll windows l.bytes → Goes windows [] l.rest l.changes.items
+abbrev pub invariant-loop-scn : goal.invariant-loop-scn
+invariant-loop-scn l = (windows : List Span) → AreWindows windows l.bytes → l.changes.items ++ changes_of l.left ≡ changes_of windows
 
-abbrev pub decreases-loop-rest : goal.decreases-loop-rest
-decreases-loop-rest l = length l.rest
+abbrev pub decreases-loop-scn : goal.decreases-loop-scn
+decreases-loop-scn l = length l.left
