@@ -1,6 +1,7 @@
 pub mod Keeper
 pub mod Entries
 pub mod Memory
+pub mod MarkHistory
 pub mod Taking
 pub mod Worked
 pub mod Log

@@ -9,6 +9,7 @@ mod following;
 mod keeper;
 mod laws;
 mod log;
+mod marks;
 mod memory;
 mod memory_log;
 mod paging;

@@ -2,9 +2,10 @@ ghost use Rattle.std.specs.Prelude.{◌≡◌, ◌≤◌, Some, IfOk, OnOk, OnEr
 ghost use Rattle.bus_types.specs.Causes.{WasCounted};
 ghost use Rattle.bus_types.specs.Rows.{page_of, IsPage};
 ghost use Rattle.bus_stores.specs.Keeper.{Reads, Commits, BothTold, IsTable, new_content, move_of, payload_of};
-ghost use Rattle.bus_stores.specs.Memory.{new_store, told_by, last_mark, stop_at, listed_stop, read_stop, commit_stop, FailsAt, CountsCall, CommitLeaves, ReadLeaves, begun, failed, stopped, stored};
+ghost use Rattle.bus_stores.specs.Memory.{new_store, told_by, stop_at, listed_stop, read_stop, commit_stop, FailsAt, CountsCall, CommitLeaves, ReadLeaves, begun, failed, stopped, stored};
 
 use crate::keeper::{Keeper, Stop, StoreFault};
+use crate::marks::Marks;
 use crate::plan::{Fail, Plan, stop_at};
 use crate::table::Table;
 use bus_types::{Change, Cursor, Key, MarkText, NoMemory, Payload, RowName, Rows};
@@ -15,11 +16,12 @@ use std::marker::Model;
 /// none.
 ///
 /// A commit takes time and memory in proportion to its batch and its mark, with a factor that is the logarithm of the
-/// number of rows; one that clears also drops the rows that there were. Each commit leaves its mark in memory.
+/// number of rows; one that clears also drops the rows that there were. Of the marks that commits set, which it tells, it
+/// keeps the last one alone, so that memory grows with the rows and not with the commits.
 #[derive(Debug, Drop)]
 pub struct MemoryKeeper {
     table: Table,
-    marks: Vec<MarkText>,
+    marks: Marks,
     plan: Plan,
 }
 
@@ -30,7 +32,7 @@ impl Model for MemoryKeeper {
 
     ghost view = { λ k. record {
       rows = k.table;
-      marks = k.marks.items;
+      marks = k.marks;
       armed = k.plan.armed;
       fails = k.plan.fails.items;
       calls = k.plan.calls;
@@ -47,7 +49,7 @@ impl MemoryKeeper {
     {
         Ok(MemoryKeeper {
             table: Table::new(alloc),
-            marks: Vec::new(alloc),
+            marks: Marks::new(),
             plan: Plan::new(alloc, fails)?,
         })
     }
@@ -138,20 +140,9 @@ impl MemoryKeeper {
         ensures err { OnErr result (self.new ≡ self.old) }
     {
         let mark = MarkText::new(alloc, mark.bytes())?;
-        self.marks.reserve(1)?;
         self.table.change(alloc, clear, batch)?;
-        self.marks.push_reserved(mark);
+        self.marks.push(mark);
         Ok(())
-    }
-}
-
-// A copy of the last mark, where there is one.
-fn copy_last(alloc: Global, marks: &[MarkText]) -> Result<Option<MarkText>, NoMemory>
-    ensures { IfOk result (λ mark. mark ≡ last_mark marks.now) }
-{
-    match marks.last() {
-        None => Ok(None),
-        Some(mark) => Ok(Some(MarkText::new(alloc, mark.bytes())?)),
     }
 }
 
@@ -166,7 +157,7 @@ impl Keeper for MemoryKeeper {
         ensures numbered { CountsCall self.old self.new }
     {
         self.begin()?;
-        Ok(copy_last(alloc, &self.marks)?)
+        Ok(self.marks.copy_last(alloc)?)
     }
 
     /// An armed stop goes before a listed one. After `Failed` the rows and the mark are those that it sets where the stop

@@ -6,6 +6,7 @@
 mod ask;
 mod check;
 mod fault;
+mod items;
 mod laws;
 mod run;
 

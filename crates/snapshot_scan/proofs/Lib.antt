@@ -1,0 +1,4 @@
+pub mod Appending
+pub mod Fills
+pub mod Scanned
+pub mod Walking
