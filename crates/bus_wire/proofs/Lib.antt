@@ -8,3 +8,5 @@ pub mod Reading
 pub mod Wanting
 pub mod Walking
 pub mod ItemsOnce
+pub mod Chunks
+pub mod Booting

@@ -7,3 +7,4 @@ pub mod Wanted
 pub mod Walk
 pub mod Shaped
 pub mod Asks
+pub mod Booted

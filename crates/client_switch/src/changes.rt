@@ -1,11 +1,13 @@
-ghost use Rattle.std.specs.Prelude.{◌≡◌, ◌++◌, List, IfOk};
-ghost use Rattle.bus_types.specs.Window.{Span};
-ghost use Rattle.event_codec.specs.Parsing.{AreWindows, HaveWindows, without_events};
+ghost use Rattle.std.specs.Prelude.{◌≡◌, ◌++◌, map, IfOk};
+ghost use Rattle.event_codec.specs.Parsing.{without_events};
+ghost use Rattle.event_codec.specs.Questions.{Reply};
+ghost use Rattle.event_codec.specs.ReplyViews.{Spells};
 ghost use Rattle.client_switch.specs.Moves.{changes_of};
 ghost use Rattle.client_switch.specs.Batch.{first_changes};
+ghost use Rattle.client_switch.specs.Turning.{items_of};
 
 use bus_types::{Change, NoMemory};
-use event_codec::Windows;
+use event_codec::{ReplyView, Run, Shape, Windows};
 use std::alloc::Global;
 
 // Takes the events of the window in front: their changes are appended, and its mark is left.
@@ -23,16 +25,44 @@ fn take_events(
     Ok(())
 }
 
-/// The changes of windows, in order. Each payload is copied once.
-pub(crate) fn windows_changes(alloc: Global, bytes: &[u8]) -> Result<Vec<Change>, NoMemory>
-    requires { HaveWindows bytes.now }
-    ensures { IfOk result (λ changes. (windows : List Span) → AreWindows windows bytes.now → changes.items ≡ changes_of windows) }
+// The changes of windows, in order.
+fn windows_changes(alloc: Global, windows: &Windows<'_>) -> Result<Vec<Change>, NoMemory>
+    ensures { IfOk result (λ changes. changes.items ≡ changes_of windows.now) }
 {
     let mut changes = Vec::new(alloc);
-    let mut left = Windows::of(bytes);
+    let mut left = windows.again();
     while let Some(_scn) = left.scn() {
         take_events(alloc, &mut left, &mut changes)?;
         left.mark();
     }
     Ok(changes)
+}
+
+// The changes of rows or of changes, in order.
+fn run_changes(alloc: Global, run: &Run<'_>) -> Result<Vec<Change>, NoMemory>
+    ensures { IfOk result (λ changes. changes.items ≡ map (λ e. e.change) run.now) }
+{
+    let mut changes = Vec::new(alloc);
+    let mut left = run.again();
+    while let Some((event, _own)) = left.next() {
+        changes.push(event.change(alloc)?)?;
+    }
+    Ok(changes)
+}
+
+/// The changes of a reply of that shape, in order. Each payload is copied once.
+pub(crate) fn reply_changes(
+    alloc: Global,
+    shape: &Shape,
+    bytes: &[u8],
+) -> Result<Vec<Change>, NoMemory>
+    requires { (r : Reply) × Spells shape.now bytes.now r }
+    ensures { IfOk result (λ changes. (r : Reply) → Spells shape.now bytes.now r → changes.items ≡ items_of r) }
+{
+    match ReplyView::of(shape, bytes) {
+        ReplyView::Windows(windows) => windows_changes(alloc, &windows),
+        ReplyView::Rows { run, .. } => run_changes(alloc, &run),
+        ReplyView::Changes { run, .. } => run_changes(alloc, &run),
+        ReplyView::Only(_) => Ok(Vec::new(alloc)),
+    }
 }

@@ -1,13 +1,25 @@
-ghost use Rattle.std.specs.Prelude.{◌≡◌, ◌∷◌, [], true, false, length};
+ghost use Rattle.std.specs.Prelude.{◌≡◌, ℕ, List, ◌∷◌, [], true, false, length};
 ghost use Rattle.bus_types.specs.declared.change.Key.TheVariants.{Long};
+ghost use Rattle.bus_types.specs.declared.row.Cursor.{Cursor};
 ghost use Rattle.bus_types.specs.declared.row.Cursor.TheVariants.{Start, After};
+ghost use Rattle.bus_types.specs.Change.{Test};
+ghost use Rattle.bus_types.specs.Rows.{rest_of};
 ghost use Rattle.bus_types.specs.Table.{table};
-ghost use Rattle.bus_types.specs.View.{everything};
+ghost use Rattle.bus_types.specs.View.{everything, view};
+ghost use Rattle.bus_types.specs.Window.{Span};
+ghost use Rattle.event_codec.specs.Chunks.{chunk_of, puts_of};
 ghost use Rattle.event_codec.specs.declared.answer.Answer.TheVariants.{TooSmall};
 ghost use Rattle.event_codec.specs.Forms.{bytes_of};
 ghost use Rattle.event_codec.specs.Questions.Reply.{Rows, Only};
 ghost use Rattle.snapshot_scan.specs.Chunk.{scan_chunk};
 ghost use Rattle.snapshot_scan.specs.Worked.{put, moving, only_two};
+
+/// A law of a scan: where a keeper's rows are the table of windows at an SCN, the chunk is that of what the filter shows of it,
+/// and at 0 that is no row.
+pub fn a_scan_gives_the_view()
+    ensures { (ws : List Span) (test : Test) (applied most : ℕ) (cursor : Cursor)
+        → scan_chunk test applied cursor most (table ws applied) ≡ chunk_of (λ cs more. Rows cs applied more) most (puts_of (rest_of cursor (view test ws applied))) }
+{}
 
 /// Worked chunks of a table that moves on while it is scanned, by computation from the definitions alone.
 pub fn worked_chunks()

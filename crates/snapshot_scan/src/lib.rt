@@ -9,5 +9,5 @@ mod pages;
 mod scan;
 
 pub use bus_stores::BootFault;
-pub use laws::worked_chunks;
+pub use laws::{a_scan_gives_the_view, worked_chunks};
 pub use scan::chunk;
