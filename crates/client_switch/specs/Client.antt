@@ -16,7 +16,6 @@ use Rattle.bus_stores.specs.Keeper.{KeeperState, BothTold, Move, SameStore, Meet
 use Rattle.bus_stores.specs.Taking.{MayFail}
 use Rattle.dispatcher.specs.Callbacks.{Call, Callback, taken, with_calls, Describes, StopsAt}
 use Rattle.dispatcher.specs.Callbacks.Callback.{OnRollback, OnCheckpoint}
-use Rattle.event_codec.specs.Parsing.{AreWindows as AreAll}
 use Rattle.client_switch.specs.declared.client.Took.{Took}
 use Rattle.client_switch.specs.declared.fault.TakeFault.{TakeFault}
 use Rattle.client_switch.specs.declared.fault.TakeFault.TheVariants.{Halted, BadReply, Refused, StoreFault, NoMemory}

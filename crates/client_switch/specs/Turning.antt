@@ -17,7 +17,6 @@ use Rattle.bus_stores.specs.Keeper.{KeeperState, SameStore}
 use Rattle.bus_stores.specs.Taking.{MayFail}
 use Rattle.dispatcher.specs.Callbacks.{Call, taken, with_calls}
 use Rattle.dispatcher.specs.Callbacks.Callback.{OnRollback, OnCheckpoint}
-use Rattle.event_codec.specs.Parsing.{AreWindows as AreAll, HaveWindows}
 use Rattle.client_switch.specs.declared.client.Took.{Took}
 use Rattle.client_switch.specs.declared.fault.TakeFault.{TakeFault}
 use Rattle.client_switch.specs.declared.fault.TakeFault.TheVariants.{Halted, BadReply, Refused, StoreFault, NoMemory}

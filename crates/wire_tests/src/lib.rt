@@ -20,3 +20,5 @@ mod splitter;
 mod streams;
 #[cfg(test)]
 mod types;
+#[cfg(test)]
+mod wire;
