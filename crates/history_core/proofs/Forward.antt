@@ -36,7 +36,8 @@ use Rattle.trace_script.specs.declared.line.Line.TheVariants.{Blank, Relay, Cons
 use Rattle.trace_script.specs.Lines.{line_of}
 use Rattle.trace_script.specs.Spelling.{is_in_range}
 use Rattle.trace_script.specs.Input.{RawLine, is_too_long}
-use Rattle.history_core.specs.Script.{Follower, State, floor, gap_line, reply_line, shown}
+use Rattle.trace_script.specs.Printed.{gap_line}
+use Rattle.history_core.specs.Script.{Follower, State, floor, taken_line, shown}
 use Rattle.history_core.specs.Steps.{Step, begin, place_of, at_name, at_name_if, with_consumer, booted, logged, replied, committed, turned, is_followed, after_reply, asked, looked_at, relay_step, consumer_step, commit_step, feed_step, log_step, apply_step, trim_step, restart_step, poll_step, crash_step, stop_step, show_step, stream_step}
 use Rattle.history_core.specs.Run.{act, line_step, text_step, TooLongAt, Played, ended, play_on, played, IsForward, AreForward, GoOn}
 
@@ -248,7 +249,7 @@ asked_follows : (s : State) (c : Follower) (most : ℕ) → IsForward c.mark →
 asked_follows s c most h =
     let reply : Reply = replied s.windows (floor s) s.end s.boot (test_of c.filter) (question c.mark c.wish most) in
     either (λ (o : Option (Follower × List ℕ)). IfSome o (λ a. Follows c a.0)) (is_followed reply) (Some (after_reply c reply)) None
-    (turned_follows c (turn c.mark reply) (reply_line reply) h (turn_passes s.windows (floor s) s.end s.boot (test_of c.filter) c.mark c.wish most h)) tt
+    (turned_follows c (turn c.mark reply) (taken_line c.mark reply) h (turn_passes s.windows (floor s) s.end s.boot (test_of c.filter) c.mark c.wish most h)) tt
 
 looked_follows : (mark : Mark) (c : Follower) → IsForward c.mark → Follows c (looked_at mark c)
 looked_follows (Online scn) c h = (refl, refl, passes_same c.mark h)

@@ -32,10 +32,11 @@ use Rattle.bus_wire.specs.True.{Boot, IsTrueOf}
 use Rattle.client_switch.specs.Turning.{CanCome}
 use Rattle.client_switch.proofs.Coming.{can_come}
 use Rattle.client_switch.proofs.Turns.{stays, lawful}
-use Rattle.history_core.specs.Script.{Follower, reply_line, stopped_line}
+use Rattle.trace_script.specs.Printed.{reply_line}
+use Rattle.history_core.specs.Script.{Follower, stage_of, taken_line, stopped_line}
 use Rattle.history_core.specs.Steps.{committed, followed, after_reply}
 use Rattle.history_core.specs.Bus.{MemberState, follower, IsReached}
-use Rattle.history_core.specs.Acting.{IsReopened, shape_line}
+use Rattle.history_core.specs.Acting.{IsReopened}
 use Rattle.history_core.specs.Polling.{Comes, TookReply}
 use Rattle.history_core.proofs.Booted.{none_listed}
 use Rattle.history_core.proofs.Members.{one_stored, reached_again}
@@ -199,7 +200,7 @@ module _ (ws : List Span) (r : Relay) (boot : Boot) (most : ℕ) (old : MemberSt
     still_good = after.good ws most comes.stands.timeline (comes.member.stored, comes.member.good) comes.asked true_of
 
     -- the reply was taken
-    taken : (took : Took) (text : List ℕ) → TakesIt took old.client client ask bytes (told_by old.store) (told_by store) None None → text ≡ shape_line took.shape (length bytes) → TookReply ws r boot most old (record old { client = client; store = store }) text
+    taken : (took : Took) (text : List ℕ) → TakesIt took old.client client ask bytes (told_by old.store) (told_by store) None None → text ≡ reply_line (stage_of old.client.mark) took.shape (length bytes) → TookReply ws r boot most old (record old { client = client; store = store }) text
     taken took text takes line =
         let reply = takes.reply in
         let t = turn old.client.mark reply in
@@ -212,8 +213,8 @@ module _ (ws : List Span) (r : Relay) (boot : Boot) (most : ℕ) (old : MemberSt
         record {
           turn =
               turns_so _
-              (took_turn t.commits t old client store text (reply_line reply) (stays old.client.mark took.shape bytes reply (comes_at took.shape takes.lawful) takes.is) comes.member.sound takes.made takes.client
-              (line ∙ printed took.shape bytes reply takes.is)
+              (took_turn t.commits t old client store text (taken_line old.client.mark reply) (stays old.client.mark took.shape bytes reply (comes_at took.shape takes.lawful) takes.is) comes.member.sound takes.made takes.client
+              (line ∙ printed old.client.mark took.shape bytes reply takes.is)
               ∙ ap (after_reply (follower old)) same_reply);
           member = record {
             runs = runs;
@@ -248,7 +249,7 @@ module _ (ws : List Span) (r : Relay) (boot : Boot) (most : ℕ) (old : MemberSt
           record {
             turn =
                 turns_so _
-                (stopped_turn t old store new text (reply_line reply) comes.member.sound opened line t.commits comes.member.stored mark halts.unmade
+                (stopped_turn t old store new text (taken_line old.client.mark reply) comes.member.sound opened line t.commits comes.member.stored mark halts.unmade
                 ∙ ap (after_reply (follower old)) same_reply);
             member = record {
               runs = opened.runs;
@@ -260,7 +261,7 @@ module _ (ws : List Span) (r : Relay) (boot : Boot) (most : ℕ) (old : MemberSt
               shown = omega (arith, opened.shows, opened.read.later);
               reached =
                   subst (λ (w : Wish). IsReached new.client.mark w) (sym opened.wish)
-                  (stopped_mark t old store new text (reply_line reply) comes.member.sound opened line (λ m. IsReached m NoWish) t.commits comes.member.stored mark halts.unmade reached_before reached_after);
+                  (stopped_mark t old store new text (taken_line old.client.mark reply) comes.member.sound opened line (λ m. IsReached m NoWish) t.commits comes.member.stored mark halts.unmade reached_before reached_after);
             };
           }
 
@@ -285,7 +286,7 @@ abbrev pub PollsAll : Result (Vec ℕ Global) OutOfMemory → MemberState → Me
 PollsAll result old new ask bytes = IfOk result (λ text. (ws : List Span) (r : Relay) (boot : Boot) (most : ℕ) → Comes ws r boot most old ask bytes → TookReply ws r boot most old new text.items)
 
 pub took_done : (old : MemberState) (ask : Ask) (bytes : List ℕ) (client : Held) (store : MemoryStore) (answer : Took) (result : Result (Vec ℕ Global) OutOfMemory) → Exchanged old ask bytes client store
-    → TakesIt answer old.client client ask bytes (told_by old.store) (told_by store) None None → IfOk result (λ text. text.items ≡ shape_line answer.shape (length bytes)) → PollsAll result old (record old { client = client; store = store }) ask bytes
+    → TakesIt answer old.client client ask bytes (told_by old.store) (told_by store) None None → IfOk result (λ text. text.items ≡ reply_line (stage_of old.client.mark) answer.shape (length bytes)) → PollsAll result old (record old { client = client; store = store }) ask bytes
 took_done old ask bytes client store answer (Err e) after takes line = tt
 took_done old ask bytes client store answer (Ok text) after takes line = λ ws r boot most comes. taken ws r boot most old ask bytes comes client store after answer text.items takes line
 

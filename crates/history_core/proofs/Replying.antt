@@ -31,10 +31,11 @@ use Rattle.event_codec.specs.Questions.Question.{Stream, Start}
 use Rattle.event_codec.specs.Questions.Reply.{Windows, Only}
 use Rattle.client_switch.specs.Client.{is_built, IsAskOf, IsReply}
 use Rattle.bus_wire.specs.True.{Boot, IsBoot, reply_of, IsTrueOf}
-use Rattle.history_core.specs.Script.{Follower, served_line, reply_line}
+use Rattle.trace_script.specs.Printed.{reply_line}
+use Rattle.history_core.specs.Script.{Follower, stage_of, taken_line}
 use Rattle.history_core.specs.Steps.{is_followed, followed, after_reply, replied}
 use Rattle.history_core.specs.Bus.{MemberState, follower, IsReached, IsMember}
-use Rattle.history_core.specs.Acting.{IsSent, IsAnswered, shape_line, replied_to}
+use Rattle.history_core.specs.Acting.{IsSent, IsAnswered, replied_to}
 use Rattle.history_core.specs.Polling.{IsUnanswered}
 
 -- ---- what is asked
@@ -112,14 +113,14 @@ followed_some c reply e = rw e refl
 -- ---- what is printed
 
 -- what is printed by the shape of a reply is what is defined for the reply
-pub printed : (shape : Shape) (bytes : List ℕ) (reply : Reply) → IsReply shape bytes reply → shape_line shape (length bytes) ≡ reply_line reply
-printed (shapes.Windows count last) bytes reply is =
+pub printed : (mark : Mark) (shape : Shape) (bytes : List ℕ) (reply : Reply) → IsReply shape bytes reply → reply_line (stage_of mark) shape (length bytes) ≡ taken_line mark reply
+printed mark (shapes.Windows count last) bytes reply is =
     let are = is.1 in
     let size : length bytes ≡ total_size is.0 = ap length are.all.spelled ∙ windows_length is.0 in
-    (λ i. served_line (are.counted i) (size i) (codes " online ") (are.ends i)) ∙ ap reply_line (sym is.2)
-printed (shapes.Rows count scn more) bytes reply is = absurd is
-printed (shapes.Changes count more) bytes reply is = absurd is
-printed (shapes.Only answer) bytes reply is = ap reply_line (sym is)
+    (λ i. reply_line (stage_of mark) (shapes.Windows (are.counted i) (are.ends i)) (size i)) ∙ ap (taken_line mark) (sym is.2)
+printed mark (shapes.Rows count scn more) bytes reply is = absurd is
+printed mark (shapes.Changes count more) bytes reply is = absurd is
+printed mark (shapes.Only answer) bytes reply is = ap (taken_line mark) (sym is)
 
 -- ---- the reply to who asks a relay that stands for a timeline, or its bootstrap
 

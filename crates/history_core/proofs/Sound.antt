@@ -20,7 +20,8 @@ use Rattle.client_switch.specs.Moves.Wish.{NoWish}
 use Rattle.client_switch.proofs.Growing.{good_stays}
 use Rattle.trace_script.specs.declared.line.Line.{Line}
 use Rattle.trace_script.specs.declared.line.Line.TheVariants.{Show}
-use Rattle.history_core.specs.Script.{Follower, State, floor, relay_line, stream_line, shown}
+use Rattle.trace_script.specs.Printed.{relay_line}
+use Rattle.history_core.specs.Script.{Follower, State, floor, stream_line, shown}
 use Rattle.history_core.specs.Steps.{Step, place_of, at_name, with_consumer, most_consumers, most_commits, new_follower, next_window, fed, replied, followed, asked, looked_at, relay_step, consumer_step, commit_step, feed_step, stream_step, poll_step, crash_step, stop_step, show_step}
 use Rattle.history_core.specs.declared.fault.StepFault.{StepFault}
 use Rattle.history_core.specs.declared.fault.StepFault.TheVariants.{BadLine, WriteFault, NoMemory}

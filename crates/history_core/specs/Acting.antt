@@ -1,5 +1,5 @@
--- What the parts of a step do, before what it prints is written.
-use Rattle.std.specs.Prelude.{◌≡◌, ℕ, ◌≤◌, true, false, List, [], take, length, codes, Some, None, Result, Ok, Err, Vec}
+-- For private functions alone: what the parts of a step do, before what it prints is written.
+use Rattle.std.specs.Prelude.{◌≡◌, ℕ, ◌≤◌, true, false, List, [], take, length, Some, None, Result, Ok, Err, Vec}
 use Rattle.std.specs.Global.{Global}
 use Rattle.std.specs.List.{AllByRecursion}
 use Rattle.bus_types.specs.Change.{Test}
@@ -8,8 +8,6 @@ use Rattle.bus_types.specs.Timeline.{end_of, end_from, windows_between}
 use Rattle.bus_types.specs.Relay.{Relay, StandsFor, answer_of}
 use Rattle.partition_filter.specs.Selection.{test_of}
 use Rattle.event_codec.specs.declared.answer.Answer.{Answer}
-use Rattle.event_codec.specs.declared.reply.Shape.{Shape}
-use Rattle.event_codec.specs.declared.reply.Shape.TheVariants.{Windows, Rows, Changes, Only}
 use Rattle.event_codec.specs.Frames.{answer_bytes}
 use Rattle.event_codec.specs.Reply.{reply_bytes}
 use Rattle.bus_wire.specs.declared.ask.Ask.{Ask}
@@ -24,7 +22,7 @@ use Rattle.client_switch.specs.Moves.Wish.{NoWish}
 use Rattle.client_switch.specs.Client.{IsStored}
 use Rattle.history_core.specs.declared.fault.StepFault.{StepFault}
 use Rattle.history_core.specs.declared.fault.StepFault.TheVariants.{BadLine, WriteFault, NoMemory}
-use Rattle.history_core.specs.Script.{Follower, shown, served_line, answer_line}
+use Rattle.history_core.specs.Script.{Follower, shown}
 use Rattle.history_core.specs.Steps.{Step, most_commits, replied, is_followed, followed, looked_at}
 use Rattle.history_core.specs.Bus.{MemberState, Parts, follower, state_of, IsMember, IsBooted, IsSound, WasCalled}
 
@@ -62,13 +60,6 @@ IsSent r boot (Start since fresh) bytes = (answer : Answer) × ((ws : List Span)
 abbrev pub IsAnswered : Boot → Ask → Type 0
 IsAnswered boot (Stream scn filter most) = Unit {0}
 IsAnswered boot (Start since fresh) = (ws : List Span) (test : Test) → is_followed (boot_reply ws test boot (Begin since fresh)) ≡ true
-
--- what a poll prints of a reply of this shape, with so many bytes
-abbrev pub shape_line : Shape → ℕ → List ℕ
-shape_line (Windows count last) bytes = served_line count bytes (codes " online ") last
-shape_line (Rows count scn more) bytes = []
-shape_line (Changes count more) bytes = []
-shape_line (Only answer) bytes = answer_line answer
 
 -- the reply to a consumer of these windows that asks a relay and a bootstrap for at most so many bytes
 abbrev pub replied_to : List Span → Relay → Boot → ℕ → MemberState → Reply

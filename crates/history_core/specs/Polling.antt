@@ -1,4 +1,4 @@
--- What comes to a consumer that polls.
+-- For private functions alone: what comes to a consumer that polls.
 use Rattle.std.specs.Prelude.{◌≡◌, ℕ, List, false, Option, Some, None, Vec}
 use Rattle.std.specs.Global.{Global}
 use Rattle.bus_types.specs.Change.{Test}

@@ -19,7 +19,8 @@ use Rattle.client_switch.specs.Moves.{Turn, question, turn}
 use Rattle.client_switch.specs.Moves.Wish.{NoWish}
 use Rattle.event_codec.specs.Questions.Question.{Stream, Start, Scan, Target, Catchup, Delta}
 use Rattle.bus_wire.specs.True.{Boot, reply_of, boot_reply}
-use Rattle.history_core.specs.Script.{Follower, State, floor, relay_line, gap_line, boot_line, stream_line, reply_line, stopped_line, shown}
+use Rattle.trace_script.specs.Printed.{relay_line, gap_line}
+use Rattle.history_core.specs.Script.{Follower, State, floor, numbers_line, stream_line, taken_line, stopped_line, shown}
 
 -- what a line leaves: the state after it and the text that it prints, or nothing where it is against a rule
 abbrev pub Step : Type 0
@@ -94,7 +95,7 @@ stream_step s scn test max = Some (s, stream_line (stream s.windows (floor s) s.
 
 -- the bootstrap has other numbers, which are printed
 abbrev pub booted : State → Boot → State × List ℕ
-booted s b = (record s { boot = b }, boot_line b)
+booted s b = (record s { boot = b }, numbers_line b)
 
 -- the SCN of the newest logged window after so many more of the windows that the relay published were logged, or those there are
 abbrev pub logged : State → ℕ → ℕ
@@ -154,7 +155,7 @@ turned c t text = if t.commits then committed c.armed c t text else (record c { 
 
 -- a consumer that took a reply, and what is printed of it
 abbrev pub after_reply : Follower → Reply → Follower × List ℕ
-after_reply c reply = turned c (turn c.mark reply) (reply_line reply)
+after_reply c reply = turned c (turn c.mark reply) (taken_line c.mark reply)
 
 -- whether it is built what a consumer does behind a reply; it isn't yet behind a beginning anew
 abbrev pub is_followed : Reply → Bool

@@ -23,7 +23,7 @@ use relay_core::{Buffer, relay_answer};
 use source_db::SourceDb;
 use std::alloc::Global;
 use std::marker::Model;
-use trace_script::{Line, Name};
+use trace_script::{Line, Name, gap_line, relay_line};
 
 /// The most consumers of a bus.
 const MOST_CONSUMERS: usize = 64;
@@ -234,7 +234,7 @@ impl<B: Buffer + Drop> Bus<B> {
     {
         let next = first(self.source.windows_after(self.relay.tail()), count);
         publish(alloc, &mut self.relay, next)?;
-        Ok(text::relay(alloc, self.relay.floor(), self.relay.tail())?.into_bytes())
+        Ok(relay_line(alloc, self.relay.floor(), self.relay.tail())?.into_bytes())
     }
 
     // The bootstrap logs the next windows that the relay keeps.
@@ -244,7 +244,7 @@ impl<B: Buffer + Drop> Bus<B> {
         ensures { Acts result (log_step (state_of self.old) count) self.old self.new }
     {
         if self.boot.high() < self.relay.floor() {
-            return Ok(text::gap(alloc, self.relay.floor())?.into_bytes());
+            return Ok(gap_line(alloc, self.relay.floor())?.into_bytes());
         }
         log_windows(alloc, &self.relay, &mut self.boot, count)?;
         Ok(text::boot(alloc, &self.boot)?.into_bytes())

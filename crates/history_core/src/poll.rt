@@ -129,11 +129,12 @@ impl Member {
         ensures { IfOk result (λ text. (ws : List Span) (r : Relay) (boot : Boot) (most : ℕ) → Comes ws r boot most self.old ask.now reply.now → TookReply ws r boot most self.old self.new text.items) }
     {
         let armed = self.keeper.armed();
+        let stage = text::stage_of(self.client.mark());
         match self
             .client
             .take(alloc, ask, reply, &mut self.keeper, &mut NoCallbacks)
         {
-            Ok(took) => text::reply(alloc, &took.shape, reply.len() as u64),
+            Ok(took) => text::reply(alloc, &stage, &took.shape, reply.len() as u64),
             Err(TakeFault::StoreFault) => self.stopped(alloc, armed),
             Err(TakeFault::NoMemory) => Err(NoMemory),
             Err(TakeFault::Halted | TakeFault::BadReply { .. } | TakeFault::Refused { .. }) =>

@@ -2,84 +2,63 @@ ghost use Rattle.std.specs.Prelude.{◌≡◌, ◌++◌, map, codes, decimal, If
 ghost use Rattle.bus_types.specs.Relay as relays;
 ghost use Rattle.bus_types.specs.Rows.{pair_of};
 ghost use Rattle.event_codec.specs.Reply.{IsServed};
-ghost use Rattle.history_core.specs.Script.{relay_line, gap_line, boot_line, line_with, served_line, stream_line, answer_line, stopped_line, row_line, rows_text};
+ghost use Rattle.trace_script.specs.Printed.{reply_line, answer_line};
+ghost use Rattle.history_core.specs.Script.{numbers_line, stage_of, sent_line, stream_line, stopped_line, row_line, rows_text};
 ghost use Rattle.history_core.specs.Bus.{boot_numbers};
-ghost use Rattle.history_core.specs.Acting.{shape_line};
 
 use crate::boot::MemoryBoot;
 use bus_stores::Stop;
 use bus_types::{Key, NoMemory, Row};
+use checkpoint::Mark;
 use event_codec::{Answer, Served, Shape};
 use std::alloc::Global;
-
-/// What a line prints that moves the relay.
-pub(crate) fn relay(alloc: Global, floor: u64, end: u64) -> Result<String, NoMemory>
-    ensures { IfOk result (λ text. string_bytes text ≡ relay_line floor end) }
-{
-    Ok(format!(in alloc; "relay {floor} {end}\n")?)
-}
-
-/// What a line prints where the relay has evicted windows that weren't logged.
-pub(crate) fn gap(alloc: Global, floor: u64) -> Result<String, NoMemory>
-    ensures { IfOk result (λ text. string_bytes text ≡ gap_line floor) }
-{
-    line_with(alloc, "gap", floor)
-}
+use trace_script::{Stage, boot_line, reply_line};
 
 /// What a line prints that moves the bootstrap.
 pub(crate) fn boot(alloc: Global, boot: &MemoryBoot) -> Result<String, NoMemory>
-    ensures { IfOk result (λ text. string_bytes text ≡ boot_line (boot_numbers boot.now)) }
+    ensures { IfOk result (λ text. string_bytes text ≡ numbers_line (boot_numbers boot.now)) }
 {
-    let base = boot.base();
-    let applied = boot.applied();
-    let high = boot.high();
-    Ok(format!(in alloc; "boot {base} {applied} {high}\n")?)
+    boot_line(alloc, boot.base(), boot.applied(), boot.high())
 }
 
-// A word and a number.
-fn line_with(alloc: Global, word: &str, number: u64) -> Result<String, NoMemory>
-    ensures { IfOk result (λ text. string_bytes text ≡ line_with word.now number) }
+/// What the line of a reply tells of a consumer that stands at a mark.
+pub(crate) fn stage_of(mark: &Mark) -> Stage
+    ensures { result ≡ stage_of mark.now }
 {
-    Ok(format!(in alloc; "{word} {number}\n")?)
+    match *mark {
+        Mark::Online { scn } => Stage::Online { scn },
+        Mark::Delta { target, .. } => Stage::Delta { target },
+        Mark::Snapshot { .. } => Stage::Snapshot,
+        Mark::Scanned { start, .. } => Stage::Scanned { start },
+        Mark::Catchup { target, .. } => Stage::Catchup { target },
+    }
 }
 
-// Windows that a consumer took.
-fn served(alloc: Global, count: u32, bytes: u64, last: u64) -> Result<String, NoMemory>
-    ensures { IfOk result (λ text. string_bytes text ≡ served_line count bytes (codes " online ") last) }
+/// What a poll prints of a reply of this shape, with so many bytes, that its consumer took at a stage.
+pub(crate) fn reply(
+    alloc: Global,
+    stage: &Stage,
+    shape: &Shape,
+    bytes: u64,
+) -> Result<Vec<u8>, NoMemory>
+    ensures { IfOk result (λ text. text.items ≡ reply_line stage.now shape.now bytes) }
 {
-    Ok(format!(in alloc; "served {count} {bytes} online {last}\n")?)
+    Ok(reply_line(alloc, stage, shape, bytes)?.into_bytes())
 }
 
 // Windows that are no consumer's.
 fn sent(alloc: Global, count: u32, bytes: u64, last: u64) -> Result<String, NoMemory>
-    ensures { IfOk result (λ text. string_bytes text ≡ served_line count bytes (codes " last ") last) }
+    ensures { IfOk result (λ text. string_bytes text ≡ sent_line count bytes last) }
 {
-    Ok(format!(in alloc; "served {count} {bytes} last {last}\n")?)
+    let text = format!(in alloc; "served {count} {bytes} last {last}\n")?;
+    Ok(text)
 }
 
-/// What a poll prints of a reply of this shape, with so many bytes, that its consumer took.
-pub(crate) fn reply(alloc: Global, shape: &Shape, bytes: u64) -> Result<Vec<u8>, NoMemory>
-    ensures { IfOk result (λ text. text.items ≡ shape_line shape.now bytes) }
+// An answer to who is no consumer, which is told as to one that is online.
+fn answered(alloc: Global, answer: Answer) -> Result<String, NoMemory>
+    ensures { IfOk result (λ text. string_bytes text ≡ answer_line (Stage.Online 0) answer) }
 {
-    match shape {
-        Shape::Windows { count, last } => Ok(served(alloc, *count, bytes, *last)?.into_bytes()),
-        Shape::Only(answer) => answered(alloc, answer),
-        Shape::Rows { .. } | Shape::Changes { .. } => Ok(Vec::new(alloc)),
-    }
-}
-
-// What a poll prints of an answer.
-fn answered(alloc: Global, answer: &Answer) -> Result<Vec<u8>, NoMemory>
-    ensures { IfOk result (λ text. text.items ≡ answer_line answer.now) }
-{
-    match *answer {
-        Answer::NotFound(floor) => Ok(line_with(alloc, "notfound", floor)?.into_bytes()),
-        Answer::Empty(end) => Ok(line_with(alloc, "empty", end)?.into_bytes()),
-        Answer::TooSmall(need) => Ok(line_with(alloc, "small", need)?.into_bytes()),
-        Answer::Behind(high) => Ok(line_with(alloc, "behind", high)?.into_bytes()),
-        Answer::LogGone(base) => Ok(line_with(alloc, "gone", base)?.into_bytes()),
-        Answer::StartDelta(_) | Answer::StartSnapshot(_) | Answer::Target(_) => Ok(Vec::new(alloc)),
-    }
+    reply_line(alloc, &Stage::Online { scn: 0 }, &Shape::Only(answer), 0)
 }
 
 /// What a stream line prints of what the relay serves.
@@ -87,9 +66,9 @@ pub(crate) fn stream(alloc: Global, served: Served) -> Result<String, NoMemory>
     ensures { (answer : relays.Served) → IsServed served answer → IfOk result (λ text. string_bytes text ≡ stream_line answer) }
 {
     match served {
-        Served::NotFound(floor) => line_with(alloc, "notfound", floor),
-        Served::Empty(end) => line_with(alloc, "empty", end),
-        Served::TooSmall(need) => line_with(alloc, "small", need),
+        Served::NotFound(floor) => answered(alloc, Answer::NotFound(floor)),
+        Served::Empty(end) => answered(alloc, Answer::Empty(end)),
+        Served::TooSmall(need) => answered(alloc, Answer::TooSmall(need)),
         Served::Windows { count, last, bytes } => sent(alloc, count, bytes, last),
     }
 }
