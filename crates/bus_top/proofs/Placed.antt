@@ -17,7 +17,8 @@ use Rattle.trace_script.specs.declared.line.Line.TheVariants.{Blank, Relay, Cons
 use Rattle.trace_script.specs.Lines.{line_of}
 use Rattle.trace_script.specs.Spelling.{is_in_range}
 use Rattle.trace_script.specs.Input.{RawLine, is_too_long}
-use Rattle.history_core.specs.Script.{Follower, State, floor, gap_line, shown}
+use Rattle.trace_script.specs.Printed.{gap_line}
+use Rattle.history_core.specs.Script.{Follower, State, floor, shown}
 use Rattle.history_core.specs.Steps.{Step, begin, place_of, at_name, at_name_if, with_consumer, booted, logged, next_window, fed, asked, looked_at, relay_step, consumer_step, commit_step, feed_step, log_step, apply_step, trim_step, restart_step, poll_step, crash_step, stop_step, show_step, stream_step}
 use Rattle.history_core.specs.Run.{act, line_step, text_step, TooLongAt, Played, ended, play_on, played}
 

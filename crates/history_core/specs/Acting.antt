@@ -1,5 +1,5 @@
--- What the parts of a step do, before what it prints is written.
-use Rattle.std.specs.Prelude.{◌≡◌, ℕ, ◌≤◌, true, false, List, [], take, length, codes, Some, None, Result, Ok, Err, Vec}
+-- For private functions alone: what the parts of a step do, before what it prints is written.
+use Rattle.std.specs.Prelude.{◌≡◌, ℕ, ◌≤◌, true, false, List, [], take, length, Some, None, Result, Ok, Err, Vec}
 use Rattle.std.specs.Global.{Global}
 use Rattle.std.specs.List.{AllByRecursion}
 use Rattle.bus_types.specs.Change.{Test}

@@ -1,4 +1,4 @@
--- What comes to a consumer that polls.
+-- For private functions alone: what comes to a consumer that polls.
 use Rattle.std.specs.Prelude.{◌≡◌, ℕ, ◌<◌, ◌^◌, List}
 use Rattle.bus_types.specs.Window.{Span}
 use Rattle.bus_types.specs.Relay.{Relay, StandsFor}
