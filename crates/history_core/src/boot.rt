@@ -194,11 +194,7 @@ pub(crate) fn trim(alloc: Global, boot: &mut MemoryBoot, scn: u64) -> Result<(),
 }
 
 /// The bytes of its reply to an ask that isn't for a stream.
-pub(crate) fn answer(
-    alloc: Global,
-    boot: &mut MemoryBoot,
-    ask: &Ask,
-) -> Result<Vec<u8>, NoMemory>
+pub(crate) fn answer(alloc: Global, boot: &mut MemoryBoot, ask: &Ask) -> Result<Vec<u8>, NoMemory>
     requires bootstrap { AsksBootstrap ask.now }
     requires booted { (ws : List Span) × IsTimeline ws × IsBooted ws boot.old }
     ensures reply { IfOk result (λ reply. (ws : List Span) → IsTimeline ws → IsBooted ws boot.old → reply.items ≡ bytes_of (boot_reply ws (test_in ask.now) (boot_numbers boot.old) (question_of ask.now))) }

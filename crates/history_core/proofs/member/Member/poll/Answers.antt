@@ -19,7 +19,7 @@ follow-requires g c =
       boot_numbers c.args.boot.now,
       c.args.max,
       comes_so ws r (boot_numbers c.args.boot.now) c.args.max c.args.self.now c.in_ok-ask.ask c.deref.result.now c.requires.1 c.requires.2.stands.lawful member mark c.in_ok-ask.ensures
-      (c.deref.ensures.value ∙ c.in_ok-reply.ensures.reply ws c.requires.1 c.requires.2) (omega arith),
+          (c.deref.ensures.value ∙ c.in_ok-reply.ensures.reply ws c.requires.1 c.requires.2) (omega arith),
     )
 
 pub returns-clause-polls : goal.returns-clause-polls
