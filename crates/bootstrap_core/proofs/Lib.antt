@@ -11,3 +11,5 @@ pub mod FirstMarks
 pub mod BaseFloors
 pub mod SettingBases
 pub mod TrimSteps
+pub mod Replays
+pub mod AskReplies

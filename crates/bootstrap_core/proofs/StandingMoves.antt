@@ -33,7 +33,7 @@ told_is (Some ws) held h e = ap Some e
 pub stretch_told : (ws : List Span) (log : LogState) → HoldsStretch ws log → TellsWindows log → log.windows ≡ Some (windows_between log.floor log.high ws)
 stretch_told ws log s t = told_is log.windows (windows_between log.floor log.high ws) t s.windows
 
-if_told : {A : Type 0} (P : A → Type 0) (told : Option A) (x : A) → told ≡ Some x → IfSome told P → P x
+pub if_told : {A : Type 0} (P : A → Type 0) (told : Option A) (x : A) → told ≡ Some x → IfSome told P → P x
 if_told P told x e h = subst (λ o. IfSome o P) e h
 
 told_if : {A : Type 0} (P : A → Type 0) (told : Option A) (x : A) → told ≡ Some x → P x → IfSome told P

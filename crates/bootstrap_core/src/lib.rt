@@ -4,11 +4,13 @@
 //! and ask it by `start` and `target`.
 #![tactic(auto)]
 
+mod answering;
 mod boot;
 mod fault;
 mod first;
 mod logging;
 mod moving;
+mod replaying;
 
 pub use boot::Boot;
 pub use bus_stores::BootFault;

@@ -1,0 +1,5 @@
+use Rattle.bootstrap_core.proofs.AskReplies.{answer_replies}
+use Rattle.bootstrap_core.proofs.boot.Boot.put_target.Goals as goal
+
+pub returns-clause-reply : goal.returns-clause-reply
+returns-clause-reply g c ws test = answer_replies _ c.target-answer.result _ _ _ (c.target-answer.ensures.reply ws test) c.in_ok-put_answer.ensures.ok
