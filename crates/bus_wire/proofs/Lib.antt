@@ -1,6 +1,12 @@
 pub mod Steps
 pub mod Runs
+pub mod Stepping
 pub mod Walk
 pub mod Uniqueness
 pub mod Replies
 pub mod Reading
+pub mod Wanting
+pub mod Walking
+pub mod ItemsOnce
+pub mod Chunks
+pub mod Booting

@@ -18,6 +18,7 @@ use Rattle.event_codec.proofs.Fronts.{event_seen, mark_seen}
 use Rattle.event_codec.proofs.Begun.{event, is_event, changes_size-append, open_count, open_size}
 use Rattle.event_codec.proofs.Readings.{right_of, changes_after}
 use Rattle.event_codec.proofs.Streams.{after_append}
+use Rattle.bus_wire.proofs.Stepping.{Leads, one_stop, here, further, after_all}
 use Rattle.bus_wire.specs.Lawful.{has_enough, AreAccepted, IsAskedFor, after_floor, AreAskedFor, IsRun, can_stand, Reading, StopsAt}
 
 -- ---- one item after the other
@@ -61,41 +62,6 @@ stays floor top filter at (inr none) = none_left (eqb (length at.windows) 32) (S
     none_left true x e = refl
     none_left false x e = rw e refl
 
--- so many items further
-abbrev Goes : (floor top : ℕ) (filter : Selection) → ℕ → At → At → Type 0
-Goes floor top filter zero a b = a ≡ b
-Goes floor top filter (suc n) a b = (c : At) × (next floor top filter a ≡ Some c) × Goes floor top filter n c b
-
--- some items further
-abbrev Leads : (floor top : ℕ) (filter : Selection) → At → At → Type 0
-Leads floor top filter a b = (n : ℕ) × Goes floor top filter n a b
-
-module _ (floor top : ℕ) (filter : Selection) where
-  -- where one reading stops, the other does
-  one_end : (n m : ℕ) (a b c : At) → Goes floor top filter n a b → next floor top filter b ≡ None → Goes floor top filter m a c → next floor top filter c ≡ None → b ≡ c
-  one_end zero zero a b c first stop second stop_too = sym first ∙ second
-  one_end zero (suc m) a b c first stop second stop_too = absurd (none-some second.0 (sym stop ∙ ap (next floor top filter) (sym first) ∙ second.1))
-  one_end (suc n) zero a b c first stop second stop_too = absurd (none-some first.0 (sym stop_too ∙ ap (next floor top filter) (sym second) ∙ first.1))
-  one_end (suc n) (suc m) a b c first stop second stop_too =
-      let same : first.0 ≡ second.0 = same_Some first.0 second.0 (sym first.1 ∙ second.1) in
-      one_end n m second.0 b c (subst (λ (x : At). Goes floor top filter n x b) same first.2) stop second.2 stop_too
-
-  one_stop : (a b c : At) → Leads floor top filter a b → next floor top filter b ≡ None → Leads floor top filter a c → next floor top filter c ≡ None → b ≡ c
-  one_stop a b c first stop second stop_too = one_end first.0 second.0 a b c first.1 stop second.1 stop_too
-
-  here : (a b : At) → a ≡ b → Leads floor top filter a b
-  here a b same = (zero, same)
-
-  further : (a b c : At) → next floor top filter a ≡ Some b → Leads floor top filter b c → Leads floor top filter a c
-  further a b c step rest = (suc rest.0, (b, step, rest.1))
-
-  goes_on : (n : ℕ) (a b c : At) → Goes floor top filter n a b → Leads floor top filter b c → Leads floor top filter a c
-  goes_on zero a b c same rest = subst (λ (x : At). Leads floor top filter x c) (sym same) rest
-  goes_on (suc n) a b c goes rest = further a goes.0 c goes.1 (goes_on n goes.0 b c goes.2 rest)
-
-  after_all : (a b c : At) → Leads floor top filter a b → Leads floor top filter b c → Leads floor top filter a c
-  after_all a b c first rest = goes_on first.0 a b c first.1 rest
-
 -- ---- what can stand is read
 
 -- the SCN of a window that has begun with these changes
@@ -136,14 +102,14 @@ module _ (floor top : ℕ) (filter : Selection) where
       (λ i. record { windows = ws; scn = sym (scn_push n cs c) i; changes = cs ++ c ∷ []; part = drop_at (event_bytes (event n c)) rest (change_size c) (event_length (event n c)) i })
 
   events_go : (ws : List Span) (n : ℕ) (done cs all : List Change) (rest : List ℕ) → (0 < length cs → length ws < 32) → Begins (after_windows (after_floor floor) ws) n all → n ≤ top → AreAccepted filter cs → all ≡ done ++ cs
-      → Leads floor top filter (point ws n done (changes_bytes n cs ++ rest)) (point ws n all rest)
-  events_go ws n done [] all rest few begins below accepted same = here floor top filter _ _ (ap (λ (x : List Change). point ws n x rest) (sym (same ∙ append-nil done)))
+      → Leads (next floor top filter) (point ws n done (changes_bytes n cs ++ rest)) (point ws n all rest)
+  events_go ws n done [] all rest few begins below accepted same = here (next floor top filter) _ _ (ap (λ (x : List Change). point ws n x rest) (sym (same ∙ append-nil done)))
   events_go ws n done (c ∷ cs) all rest few begins below accepted same =
       let others = changes_bytes n cs ++ rest in
       let step = event_step ws n done c cs others (few (omega arith)) (subst (λ (x : List Change). Begins (after_windows (after_floor floor) ws) n x) same begins) below accepted.0 in
       let more = events_go ws n (done ++ c ∷ []) cs all rest (λ _. few (omega arith)) begins below accepted.1 (same ∙ sym (append_assoc done (c ∷ []) cs)) in
-      after_all floor top filter _ (point ws n done (event_bytes (event n c) ++ others)) _ (here floor top filter _ _ (ap (point ws n done) (append_assoc (event_bytes (event n c)) (changes_bytes n cs) rest)))
-      (further floor top filter _ (point ws n (done ++ c ∷ []) others) _ step more)
+      after_all (next floor top filter) _ (point ws n done (event_bytes (event n c) ++ others)) _ (here (next floor top filter) _ _ (ap (point ws n done) (append_assoc (event_bytes (event n c)) (changes_bytes n cs) rest)))
+      (further (next floor top filter) _ (point ws n (done ++ c ∷ []) others) _ step more)
 
   mark_step : (ws : List Span) (w : Span) (rest : List ℕ) → length ws < 32 → Comes (after_windows (after_floor floor) ws) w → IsAskedFor top filter w
       → next floor top filter (point ws w.scn w.changes (mark_bytes w.scn w.prev ++ rest)) ≡ Some (point (ws ++ w ∷ []) 0 [] rest)
@@ -162,8 +128,8 @@ module _ (floor top : ℕ) (filter : Selection) where
   window_parts w ws rest = append_assoc (window_bytes w) (windows_bytes ws) rest ∙ append_assoc (changes_bytes w.scn w.changes) (mark_bytes w.scn w.prev) (windows_bytes ws ++ rest)
 
   windows_go : (done ws all : List Span) (rest : List ℕ) → Come (after_windows (after_floor floor) done) ws → AllByRecursion (IsAskedFor top filter) ws → all ≡ done ++ ws → length all ≤ 32
-      → Leads floor top filter (point done 0 [] (windows_bytes ws ++ rest)) (point all 0 [] rest)
-  windows_go done [] all rest come asked same few = here floor top filter _ _ (ap (λ (x : List Span). point x 0 [] rest) (sym (same ∙ append-nil done)))
+      → Leads (next floor top filter) (point done 0 [] (windows_bytes ws ++ rest)) (point all 0 [] rest)
+  windows_go done [] all rest come asked same few = here (next floor top filter) _ _ (ap (λ (x : List Span). point x 0 [] rest) (sym (same ∙ append-nil done)))
   windows_go done (w ∷ ws) all rest come asked same few =
       let t = after_windows (after_floor floor) done in
       let within = come.0.within in
@@ -172,22 +138,22 @@ module _ (floor top : ℕ) (filter : Selection) where
       let begins : Begins t w.scn w.changes = record { above = λ _. come.0.above; scn = within.scn; count = within.count; size = within.size; changes = within.changes } in
       let events = events_go done w.scn [] w.changes w.changes (mark_bytes w.scn w.prev ++ others) (λ _. room) begins asked.0.below asked.0.accepted refl in
       let more = windows_go (done ++ w ∷ []) ws all rest (subst (λ (q : Since). Come q ws) (sym (after_append (after_floor floor) done (w ∷ []))) come.1) asked.1 (same ∙ sym (append_assoc done (w ∷ []) ws)) few in
-      after_all floor top filter _ (point done w.scn [] (changes_bytes w.scn w.changes ++ (mark_bytes w.scn w.prev ++ others))) _ (here floor top filter _ _ (ap (point done 0 []) (window_parts w ws rest)))
-      (after_all floor top filter _ (point done w.scn w.changes (mark_bytes w.scn w.prev ++ others)) _ events (further floor top filter _ (point (done ++ w ∷ []) 0 [] others) _ (mark_step done w others room come.0 asked.0) more))
+      after_all (next floor top filter) _ (point done w.scn [] (changes_bytes w.scn w.changes ++ (mark_bytes w.scn w.prev ++ others))) _ (here (next floor top filter) _ _ (ap (point done 0 []) (window_parts w ws rest)))
+      (after_all (next floor top filter) _ (point done w.scn w.changes (mark_bytes w.scn w.prev ++ others)) _ events (further (next floor top filter) _ (point (done ++ w ∷ []) 0 [] others) _ (mark_step done w others room come.0 asked.0) more))
 
   -- a reading is read
-  reading_goes : (bytes : List ℕ) (r : Reading floor top filter bytes) → Leads floor top filter (point [] 0 [] bytes) (point r.windows r.scn r.changes r.part)
+  reading_goes : (bytes : List ℕ) (r : Reading floor top filter bytes) → Leads (next floor top filter) (point [] 0 [] bytes) (point r.windows r.scn r.changes r.part)
   reading_goes bytes r =
       let behind = changes_bytes r.scn r.changes ++ r.part in
       let ws = r.windows in
-      after_all floor top filter _ (point [] 0 [] (windows_bytes ws ++ behind)) _ (here floor top filter _ _ (ap (point [] 0 []) (r.parts ∙ append_assoc (windows_bytes ws) (changes_bytes r.scn r.changes) r.part)))
-      (after_all floor top filter _ (point ws r.scn [] behind) _ (windows_go [] ws ws behind r.asked.come r.asked.each refl r.asked.few)
+      after_all (next floor top filter) _ (point [] 0 [] (windows_bytes ws ++ behind)) _ (here (next floor top filter) _ _ (ap (point [] 0 []) (r.parts ∙ append_assoc (windows_bytes ws) (changes_bytes r.scn r.changes) r.part)))
+      (after_all (next floor top filter) _ (point ws r.scn [] behind) _ (windows_go [] ws ws behind r.asked.come r.asked.each refl r.asked.few)
       (events_go ws r.scn [] r.changes r.changes r.part r.room r.begins r.below r.accepted refl))
 
   -- a run is read to its end
-  run_goes : (bytes : List ℕ) (ws : List Span) → AreAskedFor floor top filter ws → bytes ≡ windows_bytes ws → Leads floor top filter (point [] 0 [] bytes) (point ws 0 [] [])
+  run_goes : (bytes : List ℕ) (ws : List Span) → AreAskedFor floor top filter ws → bytes ≡ windows_bytes ws → Leads (next floor top filter) (point [] 0 [] bytes) (point ws 0 [] [])
   run_goes bytes ws asked same =
-      after_all floor top filter _ (point [] 0 [] (windows_bytes ws ++ [])) _ (here floor top filter _ _ (ap (point [] 0 []) (same ∙ sym (append-nil (windows_bytes ws)))))
+      after_all (next floor top filter) _ (point [] 0 [] (windows_bytes ws ++ [])) _ (here (next floor top filter) _ _ (ap (point [] 0 []) (same ∙ sym (append-nil (windows_bytes ws)))))
       (windows_go [] ws ws [] asked.come asked.each refl asked.few)
 
   run_ends : (ws : List Span) → next floor top filter (point ws 0 [] []) ≡ None
@@ -209,13 +175,13 @@ module _ (floor top : ℕ) (filter : Selection) where
   -- the windows of bytes are the only ones
   pub one_run : (bytes : List ℕ) (ws vs : List Span) → IsRun floor top filter ws → IsRun floor top filter vs → bytes ≡ windows_bytes ws → bytes ≡ windows_bytes vs → ws ≡ vs
   one_run bytes ws vs one two same same_too =
-      ap (λ (at : At). at.windows) (one_stop floor top filter (point [] 0 [] bytes) (point ws 0 [] []) (point vs 0 [] []) (run_goes bytes ws one.asked same) (run_ends ws) (run_goes bytes vs two.asked same_too) (run_ends vs))
+      ap (λ (at : At). at.windows) (one_stop (next floor top filter) (point [] 0 [] bytes) (point ws 0 [] []) (point vs 0 [] []) (run_goes bytes ws one.asked same) (run_ends ws) (run_goes bytes vs two.asked same_too) (run_ends vs))
 
   -- bytes that stop somewhere are no run
   pub no_run_stops : (bytes : List ℕ) (ws : List Span) (place : ℕ) → IsRun floor top filter ws → bytes ≡ windows_bytes ws → StopsAt floor top filter bytes place → ⊥
   no_run_stops bytes ws place run same stop =
       let r = stop.read in
-      let at = one_stop floor top filter (point [] 0 [] bytes) (point ws 0 [] []) (point r.windows r.scn r.changes r.part) (run_goes bytes ws run.asked same) (run_ends ws) (reading_goes bytes r) (stop_ends bytes place stop) in
+      let at = one_stop (next floor top filter) (point [] 0 [] bytes) (point ws 0 [] []) (point r.windows r.scn r.changes r.part) (run_goes bytes ws run.asked same) (run_ends ws) (reading_goes bytes r) (stop_ends bytes place stop) in
       let windows : length ws ≡ length r.windows = ap (λ (x : At). length x.windows) at in
       let changes : 0 ≡ length r.changes = ap (λ (x : At). length x.changes) at in
       let part : 0 ≡ length r.part = ap (λ (x : At). length x.part) at in
@@ -228,7 +194,7 @@ module _ (floor top : ℕ) (filter : Selection) where
   one_place bytes place other one two =
       let r = one.read in
       let q = two.read in
-      let at = one_stop floor top filter (point [] 0 [] bytes) (point r.windows r.scn r.changes r.part) (point q.windows q.scn q.changes q.part) (reading_goes bytes r) (stop_ends bytes place one) (reading_goes bytes q) (stop_ends bytes other two) in
+      let at = one_stop (next floor top filter) (point [] 0 [] bytes) (point r.windows r.scn r.changes r.part) (point q.windows q.scn q.changes q.part) (reading_goes bytes r) (stop_ends bytes place one) (reading_goes bytes q) (stop_ends bytes other two) in
       one.there
       ∙ ap (λ (x : List ℕ). length (windows_bytes r.windows ++ x)) (bytes_are r.scn r.changes)
       ∙ ap (λ (x : At). length (windows_bytes x.windows ++ changes_bytes x.scn x.changes)) at

@@ -1,8 +1,9 @@
 -- Which replies are lawful for what is asked, and where a reply that isn't is at fault.
-use Rattle.std.specs.Prelude.{◌≡◌, ℕ, ◌<◌, ◌≤◌, ◌⊎◌, Bool, true, false, IsTrue, if◌then◌else◌, ◌&&◌, nat_lt, nat_le, List, ◌++◌, length}
+use Rattle.std.specs.Prelude.{◌≡◌, ℕ, ◌+◌, ◌<◌, ◌≤◌, ◌⊎◌, Bool, true, false, IsTrue, if◌then◌else◌, ◌&&◌, nat_lt, nat_le, List, ◌++◌, length}
 use Rattle.std.specs.List.{AllByRecursion}
 use Rattle.bus_types.specs.declared.change.Change.{Change}
-use Rattle.bus_types.specs.declared.limits.TheConstants.{MAX_SCN, MAX_WINDOW}
+use Rattle.bus_types.specs.declared.limits.TheConstants.{MAX_SCN, MAX_WINDOW, MAX_PAYLOAD}
+use Rattle.bus_types.specs.declared.row.Cursor.{Cursor}
 use Rattle.bus_types.specs.Window.{Span}
 use Rattle.bus_types.specs.Timeline.{end_of}
 use Rattle.bus_types.specs.Relay.{most_windows}
@@ -18,7 +19,8 @@ use Rattle.event_codec.specs.Items.{Since, Open, open_of, Front, front_of}
 use Rattle.event_codec.specs.Items.Front.{Unfinished, Refused, AnEvent, AMark}
 use Rattle.event_codec.specs.Streams.{Come, after_windows, windows_bytes, Begins}
 use Rattle.bus_wire.specs.declared.ask.Ask.{Ask}
-use Rattle.bus_wire.specs.declared.ask.Ask.TheVariants.{Stream, Start}
+use Rattle.bus_wire.specs.declared.ask.Ask.TheVariants.{Stream, Start, Scan, Target as WhereTo, Catchup, Delta}
+use Rattle.bus_wire.specs.Wanted.{rows_wanted, changes_wanted, HoldsItems, ItemsStop}
 
 -- ---- answers
 
@@ -45,10 +47,41 @@ start_answers since fresh (StartDelta start) = if fresh then false else nat_lt s
 start_answers since fresh (StartSnapshot start) = true
 start_answers since fresh (Target target) = false
 
+-- in place of what a bootstrap holds from an SCN on: its log begins later, it isn't so far, or the limit is too small for what
+-- is next, which has a greatest size
+abbrev pub log_answers : ℕ → ℕ → ℕ → ℕ → Answer → Bool
+log_answers from least max most (NotFound floor) = false
+log_answers from least max most (Empty end) = false
+log_answers from least max most (TooSmall need) = nat_lt max need && nat_le need most
+log_answers from least max most (Behind tail) = nat_lt tail least
+log_answers from least max most (LogGone start) = nat_lt from start
+log_answers from least max most (StartDelta start) = false
+log_answers from least max most (StartSnapshot start) = false
+log_answers from least max most (Target target) = false
+
+-- where a replay from an SCN goes to, not below what was asked: or the log begins later, or the bootstrap isn't so far
+abbrev pub target_answers : ℕ → ℕ → Answer → Bool
+target_answers from least (NotFound floor) = false
+target_answers from least (Empty end) = false
+target_answers from least (TooSmall need) = false
+target_answers from least (Behind tail) = nat_lt tail least
+target_answers from least (LogGone start) = nat_lt from start
+target_answers from least (StartDelta start) = false
+target_answers from least (StartSnapshot start) = false
+target_answers from least (Target target) = nat_le least target && nat_le from target
+
+-- the bytes of a chunk of one item, at most
+abbrev pub most_chunk : ℕ
+most_chunk = MAX_PAYLOAD + 33
+
 -- the answers to what is asked
 abbrev pub answers : Ask → Answer → Bool
 answers (Stream scn filter max) answer = stream_answers scn max answer
 answers (Start since fresh) answer = start_answers since fresh answer
+answers (Scan start cursor filter max) answer = log_answers start start max most_chunk answer
+answers (WhereTo start atleast) answer = target_answers start atleast answer
+answers (Catchup at target filter max) answer = log_answers at target max MAX_WINDOW answer
+answers (Delta since target cursor filter max) answer = log_answers since target max most_chunk answer
 
 -- a lawful answer, whose number is in its range
 pub record IsAnswerTo (ask : Ask) (answer : Answer) : Type 0 where
@@ -97,16 +130,45 @@ pub record HoldsRun (floor top : ℕ) (filter : Selection) (bytes : List ℕ) (c
   pub counted : count ≡ length windows
   pub ends : last ≡ end_of windows
 
--- windows are a lawful reply where they were asked for
-abbrev pub HoldsWindows : Ask → List ℕ → ℕ → ℕ → Type 0
-HoldsWindows (Stream scn filter max) bytes count last = HoldsRun scn MAX_SCN filter bytes count last
-HoldsWindows (Start since fresh) bytes count last = ⊥
+-- what a reply has where it isn't an answer: nothing else is lawful; windows above a floor and up to a top; rows from an SCN on,
+-- after a cursor; or changes of an SCN, after a cursor
+pub data Body : Type 0 where
+  NoBody : Body
+  WindowsOf : ℕ → ℕ → Selection → Body
+  RowsOf : ℕ → Cursor → Selection → Body
+  ChangesOf : ℕ → Cursor → Selection → Body
+
+abbrev pub body_of : Ask → Body
+body_of (Stream scn filter max) = WindowsOf scn MAX_SCN filter
+body_of (Start since fresh) = NoBody
+body_of (Scan start cursor filter max) = RowsOf start cursor filter
+body_of (WhereTo start atleast) = NoBody
+body_of (Catchup at target filter max) = WindowsOf at target filter
+body_of (Delta since target cursor filter max) = ChangesOf target cursor filter
+
+abbrev pub HoldsWindows : Body → List ℕ → ℕ → ℕ → Type 0
+HoldsWindows NoBody bytes count last = ⊥
+HoldsWindows (WindowsOf floor top filter) bytes count last = HoldsRun floor top filter bytes count last
+HoldsWindows (RowsOf start cursor filter) bytes count last = ⊥
+HoldsWindows (ChangesOf target cursor filter) bytes count last = ⊥
+
+abbrev pub HoldsRows : Body → List ℕ → ℕ → ℕ → Bool → Type 0
+HoldsRows NoBody bytes count scn more = ⊥
+HoldsRows (WindowsOf floor top filter) bytes count scn more = ⊥
+HoldsRows (RowsOf start cursor filter) bytes count scn more = HoldsItems (rows_wanted start cursor filter) bytes count scn more
+HoldsRows (ChangesOf target cursor filter) bytes count scn more = ⊥
+
+abbrev pub HoldsChanges : Body → List ℕ → ℕ → Bool → Type 0
+HoldsChanges NoBody bytes count more = ⊥
+HoldsChanges (WindowsOf floor top filter) bytes count more = ⊥
+HoldsChanges (RowsOf start cursor filter) bytes count more = ⊥
+HoldsChanges (ChangesOf target cursor filter) bytes count more = HoldsItems (changes_wanted target cursor filter) bytes count target more
 
 -- the bytes are a lawful reply of that shape
 abbrev pub IsLawful : Ask → List ℕ → Shape → Type 0
-IsLawful ask bytes (shapes.Windows count last) = HoldsWindows ask bytes count last
-IsLawful ask bytes (shapes.Rows count scn more) = ⊥
-IsLawful ask bytes (shapes.Changes count more) = ⊥
+IsLawful ask bytes (shapes.Windows count last) = HoldsWindows (body_of ask) bytes count last
+IsLawful ask bytes (shapes.Rows count scn more) = HoldsRows (body_of ask) bytes count scn more
+IsLawful ask bytes (shapes.Changes count more) = HoldsChanges (body_of ask) bytes count more
 IsLawful ask bytes (shapes.Only answer) = (bytes ≡ answer_bytes answer) × IsAnswerTo ask answer
 
 -- ---- faults
@@ -153,9 +215,14 @@ abbrev pub HasNoAnswer : Ask → List ℕ → Type 0
 HasNoAnswer ask bytes = (answer : Answer) (rest : List ℕ) → IsAnswerTo ask answer → bytes ≡ answer_bytes answer ++ rest → ⊥
 
 -- the place where other bytes stop being a lawful reply
+abbrev pub StopsIn : Body → List ℕ → ℕ → Type 0
+StopsIn NoBody bytes place = place ≡ 0
+StopsIn (WindowsOf floor top filter) bytes place = StopsAt floor top filter bytes place
+StopsIn (RowsOf start cursor filter) bytes place = ItemsStop (rows_wanted start cursor filter) bytes place
+StopsIn (ChangesOf target cursor filter) bytes place = ItemsStop (changes_wanted target cursor filter) bytes place
+
 abbrev pub EndsAt : Ask → List ℕ → ℕ → Type 0
-EndsAt (Stream scn filter max) bytes place = StopsAt scn MAX_SCN filter bytes place
-EndsAt (Start since fresh) bytes place = place ≡ 0
+EndsAt ask bytes place = StopsIn (body_of ask) bytes place
 
 -- the place of the first item that can't stand, or is missing
 abbrev pub IsFaultAt : Ask → List ℕ → ℕ → Type 0

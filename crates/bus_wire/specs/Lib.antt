@@ -3,3 +3,8 @@ pub mod Served
 pub mod Run
 pub mod True
 pub mod Replies
+pub mod Wanted
+pub mod Walk
+pub mod Shaped
+pub mod Asks
+pub mod Booted

@@ -20,3 +20,4 @@ pub mod Parsings
 pub mod Lendings
 pub mod Replying
 pub mod Taking
+pub mod Closings

@@ -21,7 +21,7 @@ use Rattle.event_codec.proofs.Begun.{event, is_event}
 use Rattle.event_codec.proofs.ItemsBack.{Shortens, left_short, read_back}
 
 -- what a mapped option was
-mapped : {A B : Type 0} (f : A → B) (o : Option A) (y : B) → option_map f o ≡ Some y → (x : A) × (o ≡ Some x) × (f x ≡ y)
+pub mapped : {A B : Type 0} (f : A → B) (o : Option A) (y : B) → option_map f o ≡ Some y → (x : A) × (o ≡ Some x) × (f x ≡ y)
 mapped f None y e = absurd cc
 mapped f (Some x) y e = (x, refl, same_Some (f x) y e)
 

@@ -1,6 +1,8 @@
 -- Chunks of items: rows or changes that fit in a reply with their closing frame.
 use Rattle.std.specs.Prelude.{ℕ, ◌+◌, ◌-◌, Bool, false, if◌then◌else◌, nat_lt, nat_le, List, [], ◌∷◌, length, map, Some}
 use Rattle.bus_types.specs.declared.change.Change.{Change}
+use Rattle.bus_types.specs.declared.row.Cursor.{Cursor}
+use Rattle.bus_types.specs.declared.row.Cursor.TheVariants.{After}
 use Rattle.bus_types.specs.Change.{change_size}
 use Rattle.bus_types.specs.Table.{RowList}
 use Rattle.event_codec.specs.declared.answer.Answer.TheVariants.{TooSmall}
@@ -27,3 +29,8 @@ chunk_of make most (c ∷ cs) =
 -- rows as puts
 abbrev pub puts_of : RowList → List Change
 puts_of rows = map (λ r. record { source = r.0.source; key = r.0.key; put = Some r.1 }) rows
+
+-- the cursor after the last of these, or the one given
+abbrev pub cursor_after : Cursor → List Change → Cursor
+cursor_after cursor [] = cursor
+cursor_after cursor (c ∷ cs) = cursor_after (After c.source c.key) cs

@@ -7,7 +7,9 @@ use Rattle.bus_types.specs.declared.change.Change.{Change}
 use Rattle.bus_types.specs.Window.{Span, IsSpan}
 use Rattle.event_codec.specs.declared.head.Head.{Head}
 use Rattle.event_codec.specs.Bytes.{Event, IsEvent, event_bytes, window_bytes}
-use Rattle.event_codec.specs.Reading.{event_front, mark_front}
+use Rattle.event_codec.specs.Frames.{Closing, run_of}
+use Rattle.event_codec.specs.Reading.{event_front, mark_front, closing_front}
+use Rattle.event_codec.specs.declared.close.Close.{Close}
 use Rattle.event_codec.specs.Streams.{windows_bytes}
 
 -- ---- items one after the other
@@ -54,6 +56,15 @@ pub record AreEvents (events : List Event) (bytes : List ℕ) : Type 0 where
 
 abbrev pub HaveEvents : List ℕ → Type 0
 HaveEvents bytes = (events : List Event) × AreEvents events bytes
+
+-- ---- the closing frame
+
+abbrev pub close_of : Close → Closing
+close_of c = record { run = run_of c.kind; scn = c.scn; more = c.more }
+
+-- the closing frame that bytes begin with, and what follows it
+unfoldable pub closing_in_front : List ℕ → Option (Closing × List ℕ)
+closing_in_front bytes = option_map (λ c. (c, drop 10 bytes)) (closing_front bytes)
 
 -- ---- windows
 

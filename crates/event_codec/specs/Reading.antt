@@ -3,6 +3,8 @@ use Rattle.std.specs.Prelude.{ℕ, Bool, ◌&&◌, ◌||◌, ◌==◌, nat_lt, n
 use Rattle.std.specs.Int.{Width, w16, w32, w64, byte_len, from_be_bytes}
 use Rattle.bus_types.specs.declared.limits.TheConstants.{MAX_SCN, MAX_PAYLOAD}
 use Rattle.event_codec.specs.declared.head.Head.{Head}
+use Rattle.event_codec.specs.Frames.{Closing}
+use Rattle.event_codec.specs.Frames.Run.{Rows, Changes}
 use Rattle.event_codec.specs.declared.answer.Answer.{Answer}
 use Rattle.event_codec.specs.declared.answer.Answer.TheVariants.{NotFound, Empty, TooSmall, Behind, LogGone, StartDelta, StartSnapshot, Target}
 
@@ -72,3 +74,15 @@ answer_front bytes =
     if nat_lt (length bytes) 9 then None
     else (let number = number_at w64 1 bytes in
     if nat_lt MAX_SCN number then None else answer_of (slice_index bytes 0) number)
+
+-- the closing frame of a kind, an SCN and a flag
+abbrev pub closing_with : ℕ → ℕ → ℕ → Option Closing
+closing_with kind scn flag =
+    if nat_lt MAX_SCN scn || nat_lt 1 flag then None
+    else if kind == 4 then Some (record { run = Rows; scn = scn; more = flag == 1 })
+    else if kind == 5 then Some (record { run = Changes; scn = scn; more = flag == 1 })
+    else None
+
+-- the closing frame that bytes begin with
+unfoldable pub closing_front : List ℕ → Option Closing
+closing_front bytes = if nat_lt (length bytes) 10 then None else closing_with (slice_index bytes 0) (number_at w64 1 bytes) (slice_index bytes 9)

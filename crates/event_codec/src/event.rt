@@ -1,4 +1,4 @@
-ghost use Rattle.std.specs.Prelude.{◌≡◌, ◌+◌, ◌≤◌, ℕ, length, IfSome, IfNone, IfOk, OnErr, MatchOption, Some, None, option_map};
+ghost use Rattle.std.specs.Prelude.{◌≡◌, ◌+◌, ◌≤◌, ◌++◌, ℕ, length, IfSome, IfNone, IfOk, OnErr, MatchOption, Some, None, option_map};
 ghost use Rattle.event_codec.specs.Bytes.{Event, IsEvent, event_bytes, StandsAt};
 
 use crate::head::{HEAD_SIZE, Head, PUT};
@@ -48,11 +48,13 @@ impl<'a> EventView<'a> {
         })
     }
 
-    // The event that bytes begin with, its own bytes, and those behind it.
-    pub(crate) fn split(bytes: &'a [u8]) -> Option<(EventView<'a>, &'a [u8], &'a [u8])>
+    /// The event that bytes begin with, its own bytes, and those behind it. `None` comes exactly where no event stands
+    /// there whole.
+    pub fn split(bytes: &'a [u8]) -> Option<(EventView<'a>, &'a [u8], &'a [u8])>
         ensures found { MatchOption result (event_in_front bytes.now ≡ None) (λ x. event_in_front bytes.now ≡ Some (event_of x.0, x.2.now)) }
         ensures view { IfSome result (λ x. IsView x.0) }
         ensures own { IfSome result (λ x. x.1.now ≡ event_bytes (event_of x.0)) }
+        ensures parts { IfSome result (λ x. bytes.now ≡ x.1.now ++ x.2.now) }
     {
         let view = EventView::front(bytes)?;
         let (own, behind) = bytes.split_at(HEAD_SIZE + view.payload.len());

@@ -17,7 +17,7 @@ mod write;
 
 pub use answer::{Answer, answer_at, answer_bytes};
 pub use bus_types::Accepts;
-pub use close::close_bytes;
+pub use close::{CLOSING_SIZE, Close, close_bytes};
 pub use event::EventView;
 pub use item::{Events, Follows, Item, item_front};
 pub use laws::{a_frame_is_read_in_one_way, a_stream_is_read_in_one_way, no_window_begins_another};

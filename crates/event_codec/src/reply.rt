@@ -5,10 +5,8 @@ ghost use Rattle.event_codec.specs.Questions.{Reply};
 ghost use Rattle.event_codec.specs.ReplyViews.{view_of, Spells, AreClosed};
 
 use crate::answer::Answer;
+use crate::close::CLOSING_SIZE;
 use crate::lent::{Run, Windows};
-
-// The bytes of a closing frame.
-const CLOSING_SIZE: usize = 10;
 
 /// What the body of a lawful reply is.
 #[derive(Clone, Copy, Debug, PartialEq, Eq)]

@@ -5,7 +5,6 @@ use crate::keepers::Store;
 use crate::told::Told;
 use crate::words::{cut, small, text};
 use bus_wire::Ask;
-use checkpoint::Mark;
 use client_switch::Client;
 use partition_filter::Filter;
 use std::alloc::Global;
@@ -48,22 +47,40 @@ pub fn client_answer(
     }
 }
 
-// What a client that is online asks next, if it asks.
-#[tactic(auto, using(client_switch::proofs::Built::online_built))]
+// What a client asks next, if it asks.
 fn ask_of(alloc: Global, client: &Client, most: u32) -> Option<Ask>
     ensures { IfSome result (λ ask. IsAskOf client.now.filter (asks client.now most) ask) }
 {
-    match client.mark() {
-        Mark::Online { .. } => client.ask(alloc, most).ok(),
-        _ => None,
-    }
+    client.ask(alloc, most).ok()
 }
 
 fn ask(alloc: Global, client: &Client, most: u32) -> Result<String, Fail> {
-    match ask_of(alloc, client, most) {
-        None => text(alloc, "nothing"),
-        Some(Ask::Stream { scn, max, .. }) => Ok(format!(in alloc; "stream {scn} {max}")?),
-        Some(Ask::Start { since, fresh }) => Ok(format!(in alloc; "start {since} {fresh}")?),
+    let Some(ask) = ask_of(alloc, client, most) else {
+        return text(alloc, "nothing");
+    };
+    match ask {
+        Ask::Stream { scn, max, .. } => Ok(format!(in alloc; "stream {scn} {max}")?),
+        Ask::Start { since, fresh } => Ok(format!(in alloc; "start {since} {fresh}")?),
+        Ask::Scan {
+            start,
+            cursor,
+            max,
+            ..
+        } => Ok(format!(in alloc; "scan {start} {cursor:?} {max}")?),
+        Ask::Target { start, atleast } => Ok(format!(in alloc; "target {start} {atleast}")?),
+        Ask::Catchup {
+            at,
+            target,
+            max,
+            ..
+        } => Ok(format!(in alloc; "catchup {at} {target} {max}")?),
+        Ask::Delta {
+            since,
+            target,
+            cursor,
+            max,
+            ..
+        } => Ok(format!(in alloc; "delta {since} {target} {cursor:?} {max}")?),
     }
 }
 

@@ -1,0 +1,3 @@
+pub mod Image
+pub mod Gate
+pub mod Segment

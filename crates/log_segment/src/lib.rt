@@ -1,0 +1,10 @@
+//! One segment of a log on a disk: windows behind a floor, each behind a gate of one byte that is opened when the record
+//! lies on the disk. It stands on `log_disk`, `bus_types`, `event_codec` and `bus_stores`. The layers above join segments
+//! to a log, and rely on what a crash at any moment leaves (`specs/Segment.antt`).
+#![tactic(auto)]
+
+mod gate;
+mod record;
+mod segment;
+
+pub use segment::{MAX_USED, Segment};

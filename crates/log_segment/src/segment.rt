@@ -1,0 +1,223 @@
+ghost use Rattle.std.specs.Prelude.{◌≡◌, ◌+◌, ◌≤◌, ◌<◌, ◌++◌, ◌∷◌, [], length, true, false, IfSome, IfOk, OnOk, vec_capacity};
+ghost use Rattle.bus_types.specs.declared.limits.TheConstants.{MAX_SCN};
+ghost use Rattle.log_segment.specs.Image.{head_bytes, record_bytes};
+ghost use Rattle.log_segment.specs.Segment.{told, IsSegment, numbers_of, free_numbers, BeginsBehind, Frees, Appends, OnRefused, Formats, with_window};
+
+use crate::gate::{cut_lasting, put_behind, write_lasting};
+use crate::record::{head_text, record_text};
+use bus_stores::LogFault;
+use bus_types::{Failed, NoMemory, Window};
+use event_codec::write_window;
+use log_disk::Disk;
+use std::alloc::Global;
+use std::marker::Model;
+
+/// The most bytes that a segment has in use after an append.
+pub const MAX_USED: u64 = 67_108_864;
+
+// The bytes that a record has beside its window: a gate, and the window's length.
+const RECORD: u64 = 5;
+
+// The bytes of a segment without a window: its gate, the tag, an SCN, and the gate of the first record.
+const HEAD: u64 = 18;
+
+// A gate that isn't open.
+const CLOSED: u8 = 0;
+
+// A window of a segment: its SCN, and the place of its record's length.
+#[derive(Clone, Copy, Debug, Drop)]
+struct Entry {
+    scn: u64,
+    place: u64,
+}
+
+/// A segment of a log on a disk: windows that follow a floor and each other. It keeps 16 bytes of memory a window.
+///
+/// Its count of faults is that of its disk, and one for each time that the disk gave something else in a window's place.
+#[derive(Debug, Drop)]
+pub struct Segment<D: Disk> {
+    disk: D,
+    // The place behind the last gate.
+    used: u64,
+    in_use: bool,
+    floor: u64,
+    high: u64,
+    index: Vec<Entry>,
+    lost: u64,
+}
+
+impl<D: Disk> Model for Segment<D> {
+    ghost use Rattle.log_segment.specs.Segment.{SegmentParts, told, IsSegment};
+
+    ghost Value = { SegmentParts D };
+
+    ghost view = { λ s. record {
+      disk = s.disk;
+      numbers = record { used = s.used; in_use = s.in_use; floor = s.floor; high = s.high; index = s.index.items; lost = s.lost };
+    } };
+
+    ghost invariant = { λ s. IsSegment (record {
+      disk = D.state s.disk;
+      numbers = record { used = s.used; in_use = s.in_use; floor = s.floor; high = s.high; index = s.index.items; lost = s.lost };
+    }) };
+}
+
+impl<D: Disk> Segment<D> {
+    /// The bytes that are in use, up to the gate behind the last record: 18, and for each window its size and 5; 1 where the
+    /// segment isn't in use.
+    pub fn used(&self) -> u64
+        ensures { result ≡ self.now.numbers.used }
+    {
+        self.used
+    }
+
+    /// Whether it is in use.
+    pub fn in_use(&self) -> bool
+        ensures { result ≡ self.now.numbers.in_use }
+    {
+        self.in_use
+    }
+
+    /// The SCN behind which its windows begin.
+    pub fn floor(&self) -> u64
+        ensures value { result ≡ self.now.numbers.floor }
+        ensures segment { IsSegment (told D.state self.now) }
+    {
+        self.floor
+    }
+
+    /// The SCN of its newest window, or its floor where it has none.
+    pub fn high(&self) -> u64
+        ensures value { result ≡ self.now.numbers.high }
+        ensures segment { IsSegment (told D.state self.now) }
+    {
+        self.high
+    }
+
+    /// Its disk, as it stands.
+    pub fn into_disk(self) -> D
+        ensures { result ≡ self.disk }
+    {
+        self.disk
+    }
+
+    // Takes the numbers of a segment without a window, behind this SCN.
+    fn note_begun(&mut self, floor: u64)
+        requires low { floor ≤ MAX_SCN }
+        requires room { IfSome (D.state self.old.disk).seen (λ bytes. HEAD ≤ length bytes) }
+        ensures disk { self.new.disk ≡ self.old.disk }
+        ensures numbers { self.new.numbers ≡ numbers_of self.old.numbers.lost floor [] }
+    {
+        self.used = HEAD;
+        self.in_use = true;
+        self.floor = floor;
+        self.high = floor;
+        self.index.clear();
+    }
+
+    /// Takes a segment into use, behind an SCN, without a window. A crash at any moment leaves it free or begun. After
+    /// `Failed`, which comes only where its count of faults rose, the disk is opened again.
+    pub fn begin(&mut self, prev: u64) -> Result<(), Failed>
+        requires free { self.old.numbers.in_use ≡ false }
+        requires low { prev ≤ MAX_SCN }
+        ensures { BeginsBehind prev (told D.state self.old) (told D.state self.new) result }
+    {
+        match put_behind(&mut self.disk, 0, &head_text(prev)) {
+            Ok(()) => {
+                self.note_begun(prev);
+                Ok(())
+            }
+            Err(fault) => Err(fault),
+        }
+    }
+
+    // Takes the numbers of a segment that isn't in use.
+    fn note_freed(&mut self)
+        ensures disk { self.new.disk ≡ self.old.disk }
+        ensures numbers { self.new.numbers ≡ free_numbers self.old.numbers.lost }
+    {
+        self.used = 1;
+        self.in_use = false;
+        self.floor = 0;
+        self.high = 0;
+        self.index.clear();
+    }
+
+    /// Gives a segment up, with its windows. A crash at any moment leaves it as it was or free. After `Failed`, which comes
+    /// only where its count of faults rose, the disk is opened again.
+    pub fn free(&mut self) -> Result<(), Failed>
+        requires { self.old.numbers.in_use ≡ true }
+        ensures { Frees (told D.state self.old) (told D.state self.new) result }
+    {
+        match write_lasting(&mut self.disk, 0, &[CLOSED]) {
+            Ok(()) => {
+                self.note_freed();
+                Ok(())
+            }
+            Err(fault) => Err(fault),
+        }
+    }
+
+    /// Makes a disk one of a segment that isn't in use, whatever it holds: it is then one closed gate. A disk that is to be
+    /// kept is not formatted: a crash may leave anything of it.
+    #[tactic(auto, using(crate::proofs::Segments::formats))]
+    pub fn format(disk: &mut D) -> Result<(), Failed>
+        ensures { Formats (D.state disk.old) (D.state disk.new) result }
+    {
+        match write_lasting(disk, 0, &[CLOSED]) {
+            Ok(()) => cut_lasting(disk, 1),
+            Err(fault) => Err(fault),
+        }
+    }
+
+    /// Appends a window in full that follows the newest one, by two writes that are each made lasting; nothing is read. A
+    /// crash at any moment leaves the windows from before, with the new one or without, and from `Ok` on with it.
+    ///
+    /// `Full` comes exactly where the used length would be above [`MAX_USED`]. `Failed` comes only where the count of faults
+    /// rose, and the disk is then opened again. After `Full` and `NoMemory` the segment is as before.
+    pub fn append(&mut self, alloc: Global, window: &Window) -> Result<(), LogFault>
+        requires in_use { self.old.numbers.in_use ≡ true }
+        requires chained { window.now.prev ≡ self.old.numbers.high }
+        requires full { 0 < length window.now.changes }
+        ensures appends { Appends window.now (told D.state self.old) (told D.state self.new) result }
+        ensures kept { OnRefused result (self.new ≡ self.old) }
+    {
+        let size = window.size();
+        if self.used > MAX_USED - RECORD - size {
+            return Err(LogFault::Full);
+        }
+        let Ok(text) = record_text(alloc, window) else {
+            return Err(LogFault::NoMemory);
+        };
+        let Ok(()) = make_room(&mut self.index) else {
+            return Err(LogFault::NoMemory);
+        };
+        match put_behind(&mut self.disk, self.used - 1, &text) {
+            Ok(()) => {
+                let (scn, place) = (window.scn(), self.used);
+                push(&mut self.index, Entry { scn, place });
+                self.used += size + RECORD;
+                self.high = scn;
+                Ok(())
+            }
+            Err(Failed) => Err(LogFault::Failed),
+        }
+    }
+}
+
+// Makes room for one entry more.
+fn make_room(index: &mut Vec<Entry>) -> Result<(), NoMemory>
+    ensures items { index.new.items ≡ index.old.items }
+    ensures room { OnOk result (length index.new.items < vec_capacity index.new) }
+{
+    index.reserve(1)?;
+    Ok(())
+}
+
+// Puts an entry behind the others. There is room for it.
+fn push(index: &mut Vec<Entry>, entry: Entry)
+    requires { length index.old.items < vec_capacity index.old }
+    ensures { index.new.items ≡ index.old.items ++ entry ∷ [] }
+{
+    index.push(entry).unwrap();
+}

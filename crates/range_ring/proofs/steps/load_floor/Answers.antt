@@ -1,0 +1,6 @@
+use Rattle.std.proofs.Common.{arith}
+use Rattle.range_ring.proofs.Moves.{loads_floor}
+use Rattle.range_ring.proofs.steps.load_floor.Goals as goal
+
+pub load-requires : goal.load-requires
+load-requires g c = let sits = c.requires in let two = sits.words in (sits.same, omega arith, loads_floor c.args.words.now.key g.T.Timeline.told _ _ _)

@@ -1,0 +1,8 @@
+//! The shared ring.
+#![tactic(auto)]
+
+mod plays;
+mod steps;
+mod words;
+
+pub use words::Limits;

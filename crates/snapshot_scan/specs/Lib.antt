@@ -1,0 +1,4 @@
+pub mod Chunk
+pub mod Filling
+pub mod Paging
+pub mod Worked
