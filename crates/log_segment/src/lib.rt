@@ -3,8 +3,13 @@
 //! to a log, and rely on what a crash at any moment leaves (`specs/Segment.antt`).
 #![tactic(auto)]
 
+mod ahead;
 mod gate;
+mod head;
+mod opening;
+mod read;
 mod record;
+mod scan;
 mod segment;
 
-pub use segment::{MAX_USED, Segment};
+pub use segment::{MAX_USED, Segment, SegmentFault};
