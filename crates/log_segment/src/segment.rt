@@ -4,7 +4,7 @@ ghost use Rattle.log_segment.specs.Image.{head_bytes, record_bytes};
 ghost use Rattle.log_segment.specs.Opening.{Opens};
 ghost use Rattle.log_segment.specs.Segment.{told, IsSegment, numbers_of, free_numbers, BeginsBehind, Frees, Appends, OnRefused, Formats, with_window};
 
-use crate::gate::{cut_lasting, put_behind, write_lasting};
+use crate::gate::{close_first, cut_lasting, put_behind};
 use crate::opening::read_segment;
 use crate::record::{head_text, record_text};
 use bus_stores::LogFault;
@@ -22,9 +22,6 @@ const RECORD: u64 = 5;
 
 // The bytes of a segment without a window: its gate, the tag, an SCN, and the gate of the first record.
 const HEAD: u64 = 18;
-
-// A gate that isn't open.
-const CLOSED: u8 = 0;
 
 // A window of a segment: its SCN, and the place of its record's length.
 #[derive(Clone, Copy, Debug, Drop)]
@@ -197,7 +194,7 @@ impl<D: Disk> Segment<D> {
         requires { self.old.numbers.in_use ≡ true }
         ensures { Frees (told D.state self.old) (told D.state self.new) result }
     {
-        match write_lasting(&mut self.disk, 0, &[CLOSED]) {
+        match close_first(&mut self.disk) {
             Ok(()) => {
                 self.note_freed();
                 Ok(())
@@ -212,7 +209,7 @@ impl<D: Disk> Segment<D> {
     pub fn format(disk: &mut D) -> Result<(), Failed>
         ensures { Formats (D.state disk.old) (D.state disk.new) result }
     {
-        match write_lasting(disk, 0, &[CLOSED]) {
+        match close_first(disk) {
             Ok(()) => cut_lasting(disk, 1),
             Err(fault) => Err(fault),
         }
