@@ -6,3 +6,5 @@ pub mod Lookings
 pub mod Scannings
 pub mod Headings
 pub mod Openings
+pub mod Lookups
+pub mod Nexts

@@ -81,7 +81,7 @@ found_window prev bytes windows (Some w) splits only =
 
 -- ---- records
 
-split_record : (front rest tail : List ℕ) (w : Span) → length front ≡ 4 → front ++ rest ≡ record_bytes w ++ tail → (front ≡ to_be_bytes w32 (span_size w)) × (rest ≡ window_bytes w ++ tail)
+pub split_record : (front rest tail : List ℕ) (w : Span) → length front ≡ 4 → front ++ rest ≡ record_bytes w ++ tail → (front ≡ to_be_bytes w32 (span_size w)) × (rest ≡ window_bytes w ++ tail)
 unfolding record_bytes
 split_record front rest tail w long is =
     let size = to_be_bytes w32 (span_size w) in

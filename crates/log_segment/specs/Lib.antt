@@ -7,3 +7,4 @@ pub mod Faults
 pub mod Scanning
 pub mod Heading
 pub mod Opening
+pub mod Lookup

@@ -4,6 +4,7 @@
 #![tactic(auto)]
 
 mod ahead;
+mod fetch;
 mod gate;
 mod head;
 mod opening;

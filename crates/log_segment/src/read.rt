@@ -69,8 +69,8 @@ fn record_length(bytes: &[u8]) -> Option<(u32, &[u8])>
     Some((u32::from_be_bytes(*size), rest))
 }
 
-// What stands behind an open gate.
-fn behind_gate(alloc: Global, prev: u64, bytes: &[u8]) -> Result<Front, NoMemory>
+/// What stands behind an open gate.
+pub(crate) fn behind_gate(alloc: Global, prev: u64, bytes: &[u8]) -> Result<Front, NoMemory>
     ensures { IfOk result (λ front. ShowsRecord front prev bytes.now) }
 {
     let Some((size, rest)) = record_length(bytes) else {

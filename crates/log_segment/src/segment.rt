@@ -1,9 +1,12 @@
 ghost use Rattle.std.specs.Prelude.{◌≡◌, ◌+◌, ◌≤◌, ◌<◌, ◌++◌, ◌∷◌, [], length, true, false, IfSome, IfOk, OnOk, vec_capacity};
 ghost use Rattle.bus_types.specs.declared.limits.TheConstants.{MAX_SCN};
 ghost use Rattle.log_segment.specs.Image.{head_bytes, record_bytes};
+ghost use Rattle.log_segment.specs.Lookup.{ReadsNext};
 ghost use Rattle.log_segment.specs.Opening.{Opens};
 ghost use Rattle.log_segment.specs.Segment.{told, IsSegment, numbers_of, free_numbers, BeginsBehind, Frees, Appends, OnRefused, Formats, with_window};
 
+use crate::ahead::ReadFault;
+use crate::fetch::{entry_after, fetch};
 use crate::gate::{close_first, cut_lasting, put_behind};
 use crate::opening::read_segment;
 use crate::record::{head_text, record_text};
@@ -246,6 +249,28 @@ impl<D: Disk> Segment<D> {
                 Ok(())
             }
             Err(Failed) => Err(LogFault::Failed),
+        }
+    }
+
+    /// A copy of the oldest window behind an SCN, and `None` exactly where the segment has none. It reads the window's record
+    /// and no other.
+    ///
+    /// `Failed` comes only where the count of faults rose: the disk failed, or it gave something else in the window's place.
+    /// The segment stays as it is, also after a fault.
+    pub fn next(&mut self, alloc: Global, scn: u64) -> Result<Option<Window>, LogFault>
+        ensures { ReadsNext scn (told D.state self.old) (told D.state self.new) result }
+    {
+        let Some((prev, entry)) = entry_after(self.floor, &self.index, scn) else {
+            return Ok(None);
+        };
+        match fetch(alloc, &mut self.disk, self.used, entry, prev) {
+            Ok(Some(window)) => Ok(Some(window)),
+            Ok(None) => {
+                self.lost.raise();
+                Err(LogFault::Failed)
+            }
+            Err(ReadFault::Failed) => Err(LogFault::Failed),
+            Err(ReadFault::NoMemory) => Err(LogFault::NoMemory),
         }
     }
 }
