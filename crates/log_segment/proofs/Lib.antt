@@ -8,3 +8,4 @@ pub mod Headings
 pub mod Openings
 pub mod Lookups
 pub mod Nexts
+pub mod OneReading

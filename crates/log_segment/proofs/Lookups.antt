@@ -194,7 +194,7 @@ module _ (from : ℕ) (front back : List Span) (w : Span) where
 abbrev pub PartAt : ℕ → List ℕ → List ℕ → Type 0
 PartAt place bytes a = (rest : List ℕ) × (drop place bytes ≡ a ++ rest)
 
-one_record : (w v : Span) (x y : List ℕ) (p q : ℕ) → Follows p w → Follows q v → record_bytes w ++ x ≡ record_bytes v ++ y → w ≡ v
+pub one_record : (w v : Span) (x y : List ℕ) (p q : ℕ) → Follows p w → Follows q v → record_bytes w ++ x ≡ record_bytes v ++ y → w ≡ v
 unfolding record_bytes
 one_record w v x y p q is other same =
     let size = to_be_bytes w32 (span_size w) in

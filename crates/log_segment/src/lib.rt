@@ -7,10 +7,12 @@ mod ahead;
 mod fetch;
 mod gate;
 mod head;
+mod laws;
 mod opening;
 mod read;
 mod record;
 mod scan;
 mod segment;
 
+pub use laws::a_segment_is_read_in_one_way;
 pub use segment::{MAX_USED, Segment, SegmentFault};
