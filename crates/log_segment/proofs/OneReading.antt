@@ -9,6 +9,8 @@ use Rattle.bus_types.specs.Timeline.{Follows, IsTimelineFrom, end_from}
 use Rattle.log_segment.specs.Image.{records, record_bytes, head_bytes, whole, Ends, IsFree}
 use Rattle.log_segment.specs.Reading.{NoRecord}
 use Rattle.log_segment.specs.Faults.{HoldsInUse, IsNothing, HasNoTag, HasNoFloor, HasNoGate, HasNoRecord, IsBadAt}
+use Rattle.log_segment.specs.Opening.{StandsAs}
+use Rattle.log_segment.specs.Segment.{SegmentState, Stands, StandsFree}
 use Rattle.log_segment.proofs.Lookups.{one_record}
 
 -- ---- lists
@@ -179,3 +181,15 @@ place_one bytes place other (inr (inr (inr (inl a)))) (inr (inr (inr (inl b)))) 
 place_one bytes place other (inr (inr (inr (inl a)))) (inr (inr (inr (inr b)))) = absurd (never_both bytes place other a b)
 place_one bytes place other (inr (inr (inr (inr a)))) (inr (inr (inr (inl b)))) = absurd (never_both bytes other place b a)
 place_one bytes place other (inr (inr (inr (inr a)))) (inr (inr (inr (inr b)))) = late_record bytes place other a b
+
+-- ---- of bytes that a crash left, an opening gives the windows that they hold, whatever it was that left them
+
+pub left_windows : (bytes : List ℕ) (from : ℕ) (ws : List Span) (s : SegmentState) → HoldsInUse from ws bytes → StandsAs bytes s → Stands from ws s
+left_windows bytes from ws s h (inl free) = absurd (not_free bytes from ws h free.0)
+left_windows bytes from ws s h (inr (other, vs, ends, stands)) =
+    let one = windows_one bytes other from vs ws (record { low = stands.low; chained = stands.chained; ends = ends }) h in
+    subst (λ (p : ℕ × List Span). Stands p.0 p.1 s) (λ i. (one.0 i, one.1 i)) stands
+
+pub left_free : (bytes : List ℕ) (s : SegmentState) → IsFree bytes → StandsAs bytes s → StandsFree s
+left_free bytes s free (inl stands) = stands.1
+left_free bytes s free (inr (other, vs, ends, stands)) = absurd (not_free bytes other vs (record { low = stands.low; chained = stands.chained; ends = ends }) free)
