@@ -145,11 +145,11 @@ pub ruleset formats = (formatted, not_formatted)
 
 -- ---- append
 
-timeline-push : (from : ℕ) (ws : List Span) (w : Span) → IsTimelineFrom from ws → Follows (end_from from ws) w → IsTimelineFrom from (ws ++ w ∷ [])
+pub timeline-push : (from : ℕ) (ws : List Span) (w : Span) → IsTimelineFrom from ws → Follows (end_from from ws) w → IsTimelineFrom from (ws ++ w ∷ [])
 timeline-push from [] w chained follows = (follows, tt)
 timeline-push from (v ∷ ws) w chained follows = (chained.0, timeline-push v.scn ws w chained.1 follows)
 
-end_push : (from : ℕ) (ws : List Span) (w : Span) → end_from from (ws ++ w ∷ []) ≡ w.scn
+pub end_push : (from : ℕ) (ws : List Span) (w : Span) → end_from from (ws ++ w ∷ []) ≡ w.scn
 end_push from [] w = refl
 end_push from (v ∷ ws) w = end_push v.scn ws w
 
