@@ -1,2 +1,4 @@
 pub mod Evictions
 pub mod Moves
+pub mod Feeding
+pub mod Fresh
