@@ -1,5 +1,5 @@
 -- The sizes of the windows that a feeder has not evicted, as it publishes one more.
-use Rattle.std.proofs.Common.{◌≡◌, ℕ, zero, suc, ◌+◌, ◌-◌, ◌<◌, ◌≤◌, true, false, ◌&&◌, nat_le, List, [], ◌∷◌, ◌++◌, length, length-append, get_or, drop, refl, sym, ap, subst, ◌∙◌, arith}
+use Rattle.std.proofs.Common.{◌≡◌, ℕ, ◌+◌, ◌-◌, ◌<◌, ◌≤◌, true, false, ◌&&◌, nat_le, List, [], ◌∷◌, ◌++◌, length, length-append, get_or, drop, refl, sym, ap, subst, ◌∙◌, arith}
 use Rattle.std.proofs.lemmas.List.{drop_more, drop_all, drop-drop, drop-append-le, length-drop}
 use Rattle.bus_types.specs.Relay.{Room, IsRoom, sum_of, has_room, surplus}
 use Rattle.bus_types.proofs.Floors.{sum_of-append, roomy_from, roomy_parts, surplus_nil, surplus_none, surplus_first, surplus_roomy}

@@ -1,5 +1,5 @@
 -- What contracts see of a ring, and of the passes, the notes and the feeder that belong to it.
-use Rattle.std.specs.Prelude.{◌≡◌, ℕ, ◌+◌, ◌<◌, true, false, List, [], ◌∷◌, length, replicate, Option, Some, None}
+use Rattle.std.specs.Prelude.{◌≡◌, ℕ, ◌+◌, true, List, [], ◌∷◌, ◌++◌, length, drop, replicate, Option}
 use Rattle.atomic_table.specs.Table.{Me}
 use Rattle.atomic_table.specs.Seated.{TableId}
 use Rattle.bus_types.specs.Window.{Span}
@@ -7,7 +7,7 @@ use Rattle.bus_types.specs.Relay.{IsRoom}
 use Rattle.range_ring.specs.declared.words.Limits.{Limits}
 use Rattle.range_ring.specs.declared.words.View.{View}
 use Rattle.range_ring.specs.Words.{room_of}
-use Rattle.range_ring.specs.Stocked.{StockIs, IsStocked}
+use Rattle.range_ring.specs.Stocked.{StockIs, IsStocked, surplus_for}
 
 -- a ring: its two words, which no other ring has, and its limits
 pub record RingIs : Type 0 where
@@ -46,6 +46,14 @@ fresh_pass home = record { home = home; evicted = 0; published = 0; floor_loads 
 abbrev pub new_feeder : RingIs → FeederIs
 new_feeder home = record { home = home; evicted = 0; published = 0; sizes = [] }
 
+-- it publishes one more window, of this size, and evicts the fewest oldest ones that make it fit
+abbrev pub published_by : FeederIs → ℕ → FeederIs
+published_by f size = record f {
+  evicted = f.evicted + surplus_for f.home.limits f.sizes size;
+  published = f.published + 1;
+  sizes = drop (surplus_for f.home.limits f.sizes size) (f.sizes ++ size ∷ []);
+}
+
 -- ---- the code's words
 
 -- a seat is at a ring's words and holds nothing
@@ -79,9 +87,18 @@ pub record ArePasses (id : TableId) (me : Me ℕ View) (passes : List PassIs) : 
   pub empty : me.1 ≡ []
   pub fresh : passes ≡ replicate (length passes) (fresh_pass (record { table = id; limits = me.0.limits }))
 
+abbrev pub feeder_of : TableId → View → StockIs → FeederIs
+feeder_of id v s = record { home = record { table = id; limits = v.limits }; evicted = s.evicted; published = s.published; sizes = s.sizes }
+
 -- the feeder's seat knows what its stock has
 pub record Feeds (timeline : Option (List Span)) (me : Me ℕ View) (stock : StockIs) : Type 0 where
   pub knows : Knows me stock.evicted stock.published
   pub limits : me.0.limits ≡ stock.limits
   pub feeds : me.0.feeds ≡ true
   pub stocked : IsStocked stock.limits timeline stock
+
+-- a ring of these limits with a feeder that published nothing, and so many passes that have seen nothing
+pub record IsNewRing (limits : Limits) (count : ℕ) (ring : RingIs) (feeder : FeederIs) (passes : PassesAre) : Type 0 where
+  pub within : ring.limits ≡ limits
+  pub feeder_new : feeder ≡ new_feeder ring
+  pub passes_fresh : passes ≡ record { home = ring; count = count }

@@ -1,7 +1,7 @@
 -- The sizes of the windows that a feeder has not evicted.
 use Rattle.std.specs.Prelude.{◌≡◌, ℕ, ◌+◌, ◌≤◌, ◌^◌, true, List, [], ◌∷◌, ◌++◌, length, take, drop, Option, Some, None}
 use Rattle.bus_types.specs.Window.{Span}
-use Rattle.bus_types.specs.Relay.{IsRoom, sizes, sum_of, has_room, surplus}
+use Rattle.bus_types.specs.Relay.{IsRoom, sizes, has_room, surplus}
 use Rattle.range_ring.specs.declared.words.Limits.{Limits}
 use Rattle.range_ring.specs.Words.{room_of, evicted_at}
 

@@ -1,4 +1,4 @@
-use Rattle.std.proofs.Common.{◌≡◌, ℕ, ◌+◌, ◌++◌, ◌∷◌, [], ◌<◌, length, drop, sym, ap, subst, ◌∙◌}
+use Rattle.std.proofs.Common.{ℕ, ◌+◌, ◌++◌, ◌∷◌, [], ◌<◌, length, sym, ap, subst, ◌∙◌}
 use Rattle.bus_types.specs.Relay.{sum_of}
 use Rattle.range_ring.specs.Stocked.{SizesAre, StockIs, IsStock, grown}
 use Rattle.range_ring.proofs.Feeding.{grows}
