@@ -4,3 +4,4 @@ pub mod Feeding
 pub mod Fresh
 pub mod Publishing
 pub mod Starting
+pub mod Answering

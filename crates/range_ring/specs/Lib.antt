@@ -1,3 +1,4 @@
 pub mod Words
 pub mod Belonging
 pub mod Stocked
+pub mod Answering

@@ -4,6 +4,7 @@
 #![tactic(auto)]
 
 mod feeder;
+mod laws;
 mod make;
 mod numbers;
 mod pass;
@@ -16,6 +17,7 @@ mod stock;
 mod words;
 
 pub use feeder::Feeder;
+pub use laws::a_ring_answers_by_positions;
 pub use make::make_ring;
 pub use numbers::Numbers;
 pub use pass::{Note, Pass, Passes};
