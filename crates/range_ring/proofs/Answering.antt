@@ -1,17 +1,20 @@
 -- What a ring answers at the numbers of windows that were evicted and published.
-use Rattle.std.proofs.Common.{◌≡◌, ℕ, ◌+◌, ◌<◌, ◌≤◌, inl, inr, cond, nat_lt, nat_le, List, [], ◌∷◌, ◌++◌, append-nil, length, take, drop, Some, sym, ap, subst, ◌∙◌, add-one, arith, take-append-drop}
+use Rattle.std.proofs.Common.{None, Option, ◌≡◌, ℕ, ◌+◌, ◌<◌, ◌≤◌, inl, inr, cond, nat_lt, nat_le, List, [], ◌∷◌, ◌++◌, append-nil, length, take, drop, Some, refl, sym, ap, subst, ◌∙◌, add-one, arith, take-append-drop}
 use Rattle.std.specs.List.{slice_get}
 use Rattle.std.proofs.lemmas.Bool.{cond-true, cond-false, lt-ltb, le-ltb, le-leb, lt-leb, cases_lt}
 use Rattle.std.proofs.lemmas.List.{length-take-le, take-take, drop_more}
 use Rattle.std.proofs.lemmas.Option.{slice_get_within, get_or_from_slice_get}
 use Rattle.bus_types.specs.Change.{Test}
 use Rattle.bus_types.specs.Window.{Span}
-use Rattle.bus_types.specs.Timeline.{IsTimeline, end_of, windows_between}
+use Rattle.bus_types.specs.Timeline.{IsTimeline, IsTold, end_of, windows_between}
 use Rattle.bus_types.specs.Cut.{cuts}
 use Rattle.bus_types.specs.Relay.{Served, NotFound, Empty, fitting, stream}
 use Rattle.bus_types.proofs.Stretches.{Rises, rises_take, rises_drop, rises_past, rises_before, rises_front_end, timeline_rises, between-append, between-split, between_is_part, between_upto_place, follows_at, end_at}
 use Rattle.bus_types.proofs.Floors.{between-after}
-use Rattle.range_ring.specs.Answering.{scn_before, windows_from, answer_at, IsNext}
+use Rattle.range_ring.specs.Answering.{scn_before, windows_from, answer_at, IsNext, IsBefore, IsFirst, IsMissed, Misses}
+use Rattle.range_ring.specs.declared.first.Miss.{Miss}
+use Rattle.range_ring.specs.declared.first.Miss.TheVariants as misses
+use Rattle.ring_cells.specs.Entries.{Held, IsEntry}
 
 -- ---- positions and SCNs
 
@@ -96,3 +99,37 @@ next ws evicted published scn position w test max t within is =
     cond-false (nat_lt scn floor) _ _ (le-ltb scn floor (omega arith))
     ∙ cond-false (nat_le end scn) _ _ (lt-leb end scn (omega arith))
     ∙ ap (λ (xs : List Span). fitting max (cuts test xs)) run
+
+-- ---- shown windows
+
+-- the SCN before the position of an entry, and the one behind it
+pub entry_before : (told : Option (List Span)) (e : Held) (h : IsEntry told e) (position scn : ℕ) → IsTold told → e.position ≡ position → scn ≡ h.window.prev → IsBefore told position scn
+entry_before None e h position scn t at is = tt
+entry_before (Some ws) e h position scn t at is = is ∙ sym (before_is ws e.position h.window t h.told) ∙ ap (scn_before ws) at
+
+pub entry_past : (told : Option (List Span)) (e : Held) (h : IsEntry told e) (position scn : ℕ) → IsTold told → e.position ≡ position → scn ≡ h.window.scn → IsBefore told (position + 1) scn
+entry_past None e h position scn t at is = tt
+entry_past (Some ws) e h position scn t at is = is ∙ sym (past_is ws e.position h.window h.told) ∙ ap (λ (n : ℕ). scn_before ws (n + 1)) at
+
+pub none_before : (told : Option (List Span)) → IsBefore told 0 0
+none_before None = tt
+none_before (Some []) = refl
+none_before (Some (w ∷ ws)) = refl
+
+-- the answer from the entry that was found, or missed
+pub found : (ws : List Span) (evicted published scn : ℕ) (e : Held) (test : Test) (max : ℕ) → IsTimeline ws → published ≤ length ws → IsFirst (Some ws) evicted published scn e → answer_at ws evicted published scn test max ≡ fitting max (cuts test (windows_from ws e.position published))
+found ws evicted published scn e test max t within is =
+    next ws evicted published scn e.position is.entry.window test max t within (record { low = is.low; high = is.high; there = is.entry.told; before = is.before; after = is.after })
+
+not_found_is : (ws : List Span) (evicted published scn floor : ℕ) (test : Test) (max : ℕ) → scn < floor → floor ≡ scn_before ws evicted → answer_at ws evicted published scn test max ≡ NotFound floor
+not_found_is ws evicted published scn floor test max below is = not_found ws evicted published scn test max (subst (λ (n : ℕ). scn < n) is below) ∙ ap NotFound (sym is)
+
+empty_is : (ws : List Span) (evicted published scn tail : ℕ) (test : Test) (max : ℕ) → IsTimeline ws → evicted ≤ published → tail ≤ scn → tail ≡ scn_before ws published → answer_at ws evicted published scn test max ≡ Empty tail
+empty_is ws evicted published scn tail test max t order past is =
+    let low = before_rises ws evicted published t order in
+    empty ws evicted published scn test max (omega arith) (omega arith) ∙ ap Empty (sym is)
+
+pub missed : (ws : List Span) (evicted published scn : ℕ) (miss : Miss) (test : Test) (max : ℕ) → IsTimeline ws → evicted ≤ published → IsMissed (Some ws) evicted published scn miss → Misses miss (answer_at ws evicted published scn test max)
+missed ws evicted published scn (misses.NotFound floor) test max t order h = not_found_is ws evicted published scn floor test max h.0 h.2
+missed ws evicted published scn (misses.Empty tail) test max t order h = empty_is ws evicted published scn tail test max t order h.0 h.2
+missed ws evicted published scn misses.Again test max t order h = tt

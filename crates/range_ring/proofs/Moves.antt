@@ -93,6 +93,11 @@ tail_lawful : (limits : Limits) (told : Option (List Span)) (evicted floor tail 
 tail_lawful limits None evicted floor tail le h = tt
 tail_lawful limits (Some ws) evicted floor tail le h = let most = h.most in (h.end, omega arith)
 
+-- no more were evicted than published
+words_order : (limits : Limits) (told : Option (List Span)) (floor tail : ℕ) → WordsStand limits told floor tail → floor ≤ tail
+words_order limits None floor tail h = h
+words_order limits (Some ws) floor tail h = h.order
+
 pub loads_tail : (limits : Limits) (told : Option (List Span)) (slots id : ℕ) (me : Me ℕ View) → me.0.limits ≡ limits → Allows (Rule limits told) slots id me 1 (λ n. n) (tail_seen told (step slots 1 0 0 none) me)
 loads_tail limits told slots id me same s h homes there small =
     let mine = h.each id me.0 there in
@@ -113,7 +118,7 @@ loads_tail limits told slots id me same s h homes there small =
     let lawful : IsSeen me.0.limits told me.0.evicted h.tail = subst (λ (l : Limits). IsSeen l told me.0.evicted h.tail) (sym same) (tail_lawful limits told me.0.evicted h.floor h.tail mine.evicted h.lawful) in
     subst (λ (ws : List ℕ). (w : View) × (a : Act ℕ) × Valid s.homes me.1 a × Kept limits told (slice_set ws 1 (slice_index ws 1)) (slice_set s.views id w) × tail_seen told (step slots 1 0 0 none) me (slice_index ws 1) (w, carried_after me.1 a))
     (sym h.words_are)
-    (seen, keeps, tt, after, (refl, mine.published, lawful))
+    (seen, keeps, tt, after, (refl, mine.published, (let e = mine.evicted in omega (arith, words_order limits told h.floor h.tail h.lawful)), lawful))
 
 -- ---- seats
 

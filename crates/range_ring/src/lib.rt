@@ -3,7 +3,9 @@
 //! The layers above make a ring by `make_ring`; contracts see numbers of windows, and which ring each part belongs to.
 #![tactic(auto)]
 
+mod claim;
 mod feeder;
+mod first;
 mod laws;
 mod make;
 mod numbers;

@@ -1,14 +1,20 @@
-ghost use Rattle.std.specs.Prelude.{◌≡◌, ◌+◌, ◌≤◌, max, [], MatchOption, IfOk};
+ghost use Rattle.std.specs.Prelude.{◌≡◌, ◌+◌, ◌≤◌, ◌≢◌, max, [], MatchOption, IfOk, IfErr};
 ghost use Rattle.range_ring.specs.Words.{IsSeen};
+ghost use Rattle.range_ring.specs.declared.first.Miss.TheVariants.{Again};
+ghost use Rattle.range_ring.specs.Answering.{IsFirst, IsMissed, IsLawful, HasLooked};
 ghost use Rattle.range_ring.specs.Belonging.{RingIs, Sits, fresh_pass};
 
+use crate::first::{Miss, first_after};
 use crate::numbers::Numbers;
 use crate::ring::Ring;
 use crate::steps::{join, load_floor, load_tail, split};
 use crate::words::Place;
 use bus_types::{NoMemory, Timeline};
+use ring_cells::Shown;
 use std::alloc::Global;
 use std::marker::{Model, PhantomData};
+use std::sync::Wait;
+use std::thread;
 
 /// The right of one reader to look at a ring's numbers. It never sees lower ones than it has seen. It belongs to the ring
 /// that was made with it.
@@ -109,10 +115,50 @@ impl<T: Timeline> Pass<T> {
         requires { self.old.home ≡ ring.now }
         ensures pass { self.new ≡ record self.old { published = result; tail_loads = self.old.tail_loads + 1 } }
         ensures later { self.old.published ≤ result }
+        ensures order { self.old.evicted ≤ result }
         ensures lawful { IsSeen ring.now.limits T.told self.old.evicted result }
     {
         self.published = load_tail(&ring.board.shared, &mut self.place);
         self.published
+    }
+
+    // Loads how many windows were evicted, and then how many were published.
+    fn look(&mut self, ring: &Ring<T>) -> Numbers
+        requires { self.old.home ≡ ring.now }
+        ensures pass { self.new ≡ record self.old { evicted = result.evicted; published = result.published; floor_loads = self.old.floor_loads + 1; tail_loads = self.old.tail_loads + 1 } }
+        ensures later { (self.old.evicted ≤ result.evicted) × (self.old.published ≤ result.published) }
+        ensures order { result.evicted ≤ result.published }
+        ensures seen { IsSeen ring.now.limits T.told result.evicted result.published }
+    {
+        let evicted = self.oldest(ring);
+        let published = self.newest(ring);
+        Numbers { evicted, published }
+    }
+
+    /// Claims the first window after an SCN, or tells why there is none, at numbers that it loads. It looks again, and so
+    /// may wait, where the ring went on meanwhile.
+    pub(crate) fn first_after<'r, R: Wait>(
+        &mut self,
+        rt: &R,
+        ring: &'r Ring<T>,
+        scn: u64,
+    ) -> Result<Shown<'r, T>, Miss>
+        requires { self.old.home ≡ ring.now }
+        ensures looked { HasLooked self.old self.new }
+        ensures lawful { IsLawful T.told self.new }
+        ensures found { IfOk result (λ shown. IsFirst T.told self.new.evicted self.new.published scn shown) }
+        ensures missed { IfErr result (λ miss. (miss ≢ Again) × IsMissed T.told self.new.evicted self.new.published scn miss) }
+    {
+        for _ in rt.forever() {
+            let numbers = self.look(ring);
+            match first_after(ring, &numbers, scn) {
+                Ok(shown) => return Ok(shown),
+                Err(Miss::NotFound(floor)) => return Err(Miss::NotFound(floor)),
+                Err(Miss::Empty(tail)) => return Err(Miss::Empty(tail)),
+                Err(Miss::Again) => thread::yield_now(),
+            }
+        }
+        unreachable!()
     }
 
     /// A copy of what it has seen.

@@ -25,6 +25,7 @@ pub(crate) fn load_tail<T: Timeline>(words: &Words<T>, place: &mut Place) -> u64
     ensures sits { Sits (record { table = words.now.table_id; limits = words.now.key }) place.new.table_id place.new.me }
     ensures seen { place.new.me ≡ (record place.old.me.0 { published = result; tail_loads = place.old.me.0.tail_loads + 1 }, []) }
     ensures later { place.old.me.0.published ≤ result }
+    ensures order { place.old.me.0.evicted ≤ result }
     ensures lawful { IsSeen words.now.key T.told place.old.me.0.evicted result }
 {
     words.load::<LoadTail<T>>(place, TAIL)
