@@ -13,3 +13,4 @@ pub mod SettingBases
 pub mod TrimSteps
 pub mod Replays
 pub mod AskReplies
+pub mod MayReplies

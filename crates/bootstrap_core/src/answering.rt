@@ -1,4 +1,4 @@
-ghost use Rattle.std.specs.Prelude.{◌≡◌, ◌≤◌, ◌<◌, ◌↔◌, ◌++◌, [], true, false, List, is_some, IfOk, IfErr, IfSome, OnErr, IsErrOf, ℕ};
+ghost use Rattle.std.specs.Prelude.{◌≡◌, ◌≤◌, ◌<◌, ◌↔◌, ◌++◌, [], true, false, List, is_some, nat_lt, IfOk, IfErr, IfSome, OnOk, OnErr, IsErrOf, ℕ};
 ghost use Rattle.bus_types.specs.declared.limits.TheConstants.{MAX_SCN};
 ghost use Rattle.bus_types.specs.Causes.{Rose};
 ghost use Rattle.bus_types.specs.Table.{table};
@@ -13,7 +13,7 @@ ghost use Rattle.partition_filter.specs.Selection.{test_of};
 ghost use Rattle.bus_wire.specs.Asks.{question_of, test_in, AsksBootstrap};
 ghost use Rattle.bus_wire.specs.True.{Boot as Numbers, boot_reply, replay_of};
 ghost use Rattle.bus_stores.specs.Keeper.{BothTold, SameStore};
-ghost use Rattle.bus_stores.specs.Log.{SameLog};
+ghost use Rattle.bus_stores.specs.Log.{SameLog, at_rest};
 ghost use Rattle.snapshot_applier.specs.BootMark.{IsBootMark};
 ghost use Rattle.snapshot_scan.specs.Chunk.{Appends};
 ghost use Rattle.snapshot_scan.specs.Filling.{Extends};
@@ -40,6 +40,13 @@ const FRAME: u32 = 10;
 /// The kind of the frame that closes changes.
 const CHANGES: u8 = 5;
 
+// Whether the log is not sure to have the windows behind an SCN.
+fn is_gone(mark: &BootMark, scn: u64) -> bool
+    ensures { result ≡ nat_lt scn mark.now.base }
+{
+    scn < mark.base
+}
+
 // Appends the next rows of the table that a scan asks for, or why there are none.
 fn scan<K: Keeper>(
     alloc: Global,
@@ -56,6 +63,7 @@ fn scan<K: Keeper>(
         IfSome (K.state keeper.new).content (λ c. c.rows ≡ table ws mark.now.applied) →
         IfOk result (λ shape. Appends (boot_reply ws (test_of filter.now) (record { base = mark.now.base; applied = mark.now.applied; high = high })
         (Question.Scan start cursor.now max)) shape reply.old.items reply.new.items) }
+    ensures front { OnOk result (Extends reply.old.items reply.new.items) }
     ensures err { OnErr result (reply.new.items ≡ reply.old.items) }
     ensures same { SameStore (K.state keeper.old) (K.state keeper.new) }
     ensures calls { BothTold (λ a b. a ≤ b) (K.state keeper.old).calls (K.state keeper.new).calls }
@@ -65,7 +73,7 @@ fn scan<K: Keeper>(
     ensures never_log { IsErrOf result BootFault.LogFailed → ⊥ }
     ensures never_halted { IsErrOf result BootFault.Halted → ⊥ }
 {
-    if start < mark.base {
+    if is_gone(mark, start) {
         return Ok(put_answer(&Answer::LogGone(mark.base), reply)?);
     }
     if mark.applied < start {
@@ -86,8 +94,10 @@ fn append_replay<G: WindowLog>(
 ) -> Result<Shape, LogFault>
     requires low { (G.state log.old).floor ≤ at }
     ensures reads { OnlyReadsLog (G.state log.old) (G.state log.new) result }
+    ensures crash { IfSome (G.state log.old).windows (λ ws. G.passes ws (at_rest (G.state log.old)) log.old log.new) }
     ensures reply { IfOk result (λ shape. IfSome (G.state log.old).windows (λ held.
-        Appends (replay_of (G.state log.old).high max (cuts (test_of filter.now) (windows_between at target held))) shape reply.old.items reply.new.items)) }
+        Appends (replay_of (G.state log.old).high max (cuts (test_of filter.now) (windows_between at target held)))
+        shape reply.old.items reply.new.items)) }
     ensures front { Extends reply.old.items reply.new.items }
 {
     let high = log.high();
@@ -108,9 +118,12 @@ fn replay_log<G: WindowLog>(
 ) -> Result<Shape, BootFault>
     requires low { (G.state log.old).floor ≤ at }
     ensures reply { IfOk result (λ shape. IfSome (G.state log.old).windows (λ held.
-        Appends (replay_of (G.state log.old).high max (cuts (test_of filter.now) (windows_between at target held))) shape reply.old.items reply.new.items)) }
+        Appends (replay_of (G.state log.old).high max (cuts (test_of filter.now) (windows_between at target held)))
+        shape reply.old.items reply.new.items)) }
+    ensures front { OnOk result (Extends reply.old.items reply.new.items) }
     ensures err { OnErr result (reply.new.items ≡ reply.old.items) }
     ensures same { SameLog (G.state log.old) (G.state log.new) }
+    ensures crash { IfSome (G.state log.old).windows (λ ws. G.passes ws (at_rest (G.state log.old)) log.old log.new) }
     ensures faults { (G.state log.old).faults ≤ (G.state log.new).faults }
     ensures failed { IsErrOf result BootFault.LogFailed → Rose (G.state log.old).faults (G.state log.new).faults }
     ensures sound { IsErrOf result BootFault.LogFailed → IfSome (G.state log.old).room (λ room. room.sound ≡ false) }
@@ -151,8 +164,10 @@ fn catch_up<G: WindowLog>(
     ensures reply { (ws : List Span) → HoldsStretch ws (G.state log.old) → TellsWindows (G.state log.old) →
         IfOk result (λ shape. Appends (boot_reply ws (test_of filter.now) (numbers (G.state log.old) mark.now) (Question.Catchup at target max))
         shape reply.old.items reply.new.items) }
+    ensures front { OnOk result (Extends reply.old.items reply.new.items) }
     ensures err { OnErr result (reply.new.items ≡ reply.old.items) }
     ensures same { SameLog (G.state log.old) (G.state log.new) }
+    ensures crash { IfSome (G.state log.old).windows (λ ws. G.passes ws (at_rest (G.state log.old)) log.old log.new) }
     ensures faults { (G.state log.old).faults ≤ (G.state log.new).faults }
     ensures failed { IsErrOf result BootFault.LogFailed → Rose (G.state log.old).faults (G.state log.new).faults }
     ensures sound { IsErrOf result BootFault.LogFailed → IfSome (G.state log.old).room (λ room. room.sound ≡ false) }
@@ -160,7 +175,7 @@ fn catch_up<G: WindowLog>(
     ensures never_halted { IsErrOf result BootFault.Halted → ⊥ }
 {
     let high = log.high();
-    if at < mark.base {
+    if is_gone(mark, at) {
         return Ok(put_answer(&Answer::LogGone(mark.base), reply)?);
     }
     if high < target {
@@ -173,6 +188,7 @@ fn catch_up<G: WindowLog>(
 fn put_no_changes(scn: u64, max: u32, reply: &mut Vec<u8>) -> Result<Shape, NoMemory>
     requires { scn ≤ MAX_SCN }
     ensures ok { IfOk result (λ shape. Appends (chunk_of (λ cs more. Changes cs scn more) max []) shape reply.old.items reply.new.items) }
+    ensures front { OnOk result (Extends reply.old.items reply.new.items) }
     ensures err { OnErr result (reply.new.items ≡ reply.old.items) }
 {
     if max < FRAME {
@@ -201,10 +217,13 @@ fn consolidate<G: WindowLog>(
     requires lawful { IsBootMark mark.now }
     requires low { (G.state log.old).floor ≤ mark.now.base }
     ensures reply { (ws : List Span) → HoldsStretch ws (G.state log.old) → TellsWindows (G.state log.old) →
-        IfOk result (λ shape. Appends (boot_reply ws (test_of filter.now) (numbers (G.state log.old) mark.now) (Question.Delta since target cursor.now max))
+        IfOk result (λ shape. Appends (boot_reply ws (test_of filter.now) (numbers (G.state log.old) mark.now)
+        (Question.Delta since target cursor.now max))
         shape reply.old.items reply.new.items) }
+    ensures front { OnOk result (Extends reply.old.items reply.new.items) }
     ensures err { OnErr result (reply.new.items ≡ reply.old.items) }
     ensures same { SameLog (G.state log.old) (G.state log.new) }
+    ensures crash { IfSome (G.state log.old).windows (λ ws. G.passes ws (at_rest (G.state log.old)) log.old log.new) }
     ensures faults { (G.state log.old).faults ≤ (G.state log.new).faults }
     ensures failed { IsErrOf result BootFault.LogFailed → Rose (G.state log.old).faults (G.state log.new).faults }
     ensures sound { IsErrOf result BootFault.LogFailed → IfSome (G.state log.old).room (λ room. room.sound ≡ false) }
@@ -212,7 +231,7 @@ fn consolidate<G: WindowLog>(
     ensures never_halted { IsErrOf result BootFault.Halted → ⊥ }
 {
     let high = log.high();
-    if since < mark.base {
+    if is_gone(mark, since) {
         return Ok(put_answer(&Answer::LogGone(mark.base), reply)?);
     }
     if high < target {
@@ -237,7 +256,7 @@ impl<G: WindowLog, K: Keeper> Boot<G, K> {
     ///
     /// `Halted` comes exactly after a fault of log or keeper in `take_log`, `apply` or `trim`. `LogFailed` and `StoreFailed` come
     /// only where that one's count of faults rose, and halt nothing here. After a fault the reply is as before. But for the counts,
-    /// log, keeper and boot mark always are.
+    /// log, keeper and boot mark always are. A crash meanwhile leaves the log's windows that were told.
     pub fn answer(
         &mut self,
         alloc: Global,
@@ -251,6 +270,7 @@ impl<G: WindowLog, K: Keeper> Boot<G, K> {
             IfOk result (λ shape. Appends (boot_reply ws (test_in ask.now) (numbers (G.state self.old.log) self.old.mark) (question_of ask.now))
             shape reply.old.items reply.new.items) }
         ensures stands { (ws : List Span) → Stands ws (told G.state K.state self.old) → Stands ws (told G.state K.state self.new) }
+        ensures front { OnOk result (Extends reply.old.items reply.new.items) }
         ensures err { OnErr result (reply.new.items ≡ reply.old.items) }
         ensures halted { IsErrOf result BootFault.Halted ↔ (self.old.halted ≡ true) }
         ensures mark { self.new.mark ≡ self.old.mark }
@@ -264,10 +284,12 @@ impl<G: WindowLog, K: Keeper> Boot<G, K> {
         ensures store { IsErrOf result BootFault.StoreFailed → Rose (K.state self.old.keeper).faults (K.state self.new.keeper).faults }
         ensures sound_log { IsErrOf result BootFault.LogFailed → IfSome (G.state self.old.log).room (λ room. room.sound ≡ false) }
         ensures sound_store { IsErrOf result BootFault.StoreFailed → IfSome (K.state self.old.keeper).stops (λ s. s.sound ≡ false) }
+        ensures crash { self.old.halted ≡ false → IfSome (G.state self.old.log).windows (λ ws. G.passes ws (at_rest (G.state self.old.log)) self.old.log self.new.log) }
     {
         if self.halted {
             return Err(BootFault::Halted);
         }
+        let _rests = self.log.high();
         match ask {
             Ask::Stream { .. } => unreachable!(),
             Ask::Start { since, fresh } => self.put_start(*since, *fresh, reply),
@@ -325,7 +347,9 @@ impl<G: WindowLog, K: Keeper> Boot<G, K> {
     // Appends how a consumer is to start.
     fn put_start(&self, since: u64, fresh: bool, reply: &mut Vec<u8>) -> Result<Shape, BootFault>
         ensures reply { (ws : List Span) (test : Test) →
-            IfOk result (λ shape. Appends (boot_reply ws test (numbers (G.state self.now.log) self.now.mark) (Question.Start since fresh)) shape reply.old.items reply.new.items) }
+            IfOk result (λ shape. Appends (boot_reply ws test (numbers (G.state self.now.log) self.now.mark) (Question.Start since fresh))
+            shape reply.old.items reply.new.items) }
+        ensures front { OnOk result (Extends reply.old.items reply.new.items) }
         ensures err { OnErr result (reply.new.items ≡ reply.old.items) }
         ensures memory { IfErr result (λ fault. fault ≡ BootFault.NoMemory) }
     {
@@ -336,7 +360,9 @@ impl<G: WindowLog, K: Keeper> Boot<G, K> {
     // Appends up to where a scan is to be replayed.
     fn put_target(&self, start: u64, atleast: u64, reply: &mut Vec<u8>) -> Result<Shape, BootFault>
         ensures reply { (ws : List Span) (test : Test) →
-            IfOk result (λ shape. Appends (boot_reply ws test (numbers (G.state self.now.log) self.now.mark) (Question.Target start atleast)) shape reply.old.items reply.new.items) }
+            IfOk result (λ shape. Appends (boot_reply ws test (numbers (G.state self.now.log) self.now.mark) (Question.Target start atleast))
+            shape reply.old.items reply.new.items) }
+        ensures front { OnOk result (Extends reply.old.items reply.new.items) }
         ensures err { OnErr result (reply.new.items ≡ reply.old.items) }
         ensures memory { IfErr result (λ fault. fault ≡ BootFault.NoMemory) }
     {

@@ -7,6 +7,7 @@ ghost use Rattle.event_codec.specs.Questions.Reply.{Only};
 ghost use Rattle.partition_filter.specs.Selection.{test_of};
 ghost use Rattle.snapshot_scan.specs.Chunk.{Appends};
 ghost use Rattle.snapshot_scan.specs.Filling.{Extends, tail_of};
+ghost use Rattle.bus_stores.specs.Log.{at_rest};
 ghost use Rattle.bootstrap_core.specs.Replaying.{OnlyReadsLog, ReadsWithin, replayed, with_cut, with_window, IsReplay, replay_shape};
 
 use bus_stores::{LogFault, WindowLog};
@@ -37,6 +38,7 @@ fn next_within<G: WindowLog>(
 ) -> Result<Option<Window>, LogFault>
     requires { (G.state log.old).floor ≤ scn }
     ensures reads { ReadsWithin scn upto (G.state log.old) (G.state log.new) result }
+    ensures crash { IfSome (G.state log.old).windows (λ ws. G.passes ws (at_rest (G.state log.old)) log.old log.new) }
 {
     let Some(window) = log.next(alloc, scn)? else {
         return Ok(None);
@@ -112,6 +114,7 @@ pub(crate) fn take_windows<G: WindowLog>(
 ) -> Result<Replay, LogFault>
     requires { (G.state log.old).floor ≤ at }
     ensures reads { OnlyReadsLog (G.state log.old) (G.state log.new) result }
+    ensures crash { IfSome (G.state log.old).windows (λ ws. G.passes ws (at_rest (G.state log.old)) log.old log.new) }
     ensures replays { IfOk result (λ r. IfSome (G.state log.old).windows (λ ws.
         IsReplay at max reply.old.items (cuts (test_of filter.now) (windows_between at target ws)) (replayed reply.new.items r))) }
     ensures front { Extends reply.old.items reply.new.items }
@@ -140,6 +143,7 @@ pub(crate) fn take_windows<G: WindowLog>(
 pub(crate) fn put_answer(answer: &Answer, reply: &mut Vec<u8>) -> Result<Shape, NoMemory>
     requires { answer_number answer.now ≤ MAX_SCN }
     ensures ok { IfOk result (λ shape. Appends (Only answer.now) shape reply.old.items reply.new.items) }
+    ensures front { OnOk result (Extends reply.old.items reply.new.items) }
     ensures err { OnErr result (reply.new.items ≡ reply.old.items) }
 {
     reply.extend_from_slice(&answer_bytes(answer))?;

@@ -1,4 +1,5 @@
-use Rattle.std.proofs.Common.{◌≡◌, ◌≤◌, None}
+use Rattle.std.proofs.Common.{◌≡◌, ◌≤◌, None, IfSome}
+use Rattle.bus_stores.specs.Log.{at_rest}
 use Rattle.partition_filter.specs.Selection.{test_of}
 use Rattle.bus_stores.proofs.Ahead.{Unmoved}
 use Rattle.snapshot_scan.specs.Filling.{Extends}
@@ -9,6 +10,7 @@ use Rattle.bootstrap_core.proofs.replaying.take_windows.Given as goal
 abbrev pub invariant-loop-taken : goal.invariant-loop-taken
 invariant-loop-taken g l = record {
   unmoved : Unmoved (g.G.WindowLog.state l.fn.log) (g.G.WindowLog.state l.log);
+  crash : IfSome (g.G.WindowLog.state l.fn.log).windows (λ ws. g.G.WindowLog.passes ws (at_rest (g.G.WindowLog.state l.fn.log)) l.fn.log l.log);
   low : l.at ≤ l.replay.last;
   count : l.replay.count ≡ l._taken;
   fits : l.replay.unfit ≡ None;
