@@ -6,9 +6,9 @@ use Rattle.std.specs.Int.{w64, from_be_bytes, to_be_bytes}
 use Rattle.bus_types.specs.declared.limits.TheConstants.{MAX_SCN}
 use Rattle.bus_types.specs.Window.{Span}
 use Rattle.bus_types.specs.Timeline.{Follows, IsTimelineFrom, end_from}
-use Rattle.log_segment.specs.Image.{records, record_bytes, head_bytes, whole, Ends, IsFree}
+use Rattle.log_segment.specs.Image.{HoldsInUse, records, record_bytes, head_bytes, whole, Ends, IsFree}
 use Rattle.log_segment.specs.Reading.{NoRecord}
-use Rattle.log_segment.specs.Faults.{HoldsInUse, IsNothing, HasNoTag, HasNoFloor, HasNoGate, HasNoRecord, IsBadAt}
+use Rattle.log_segment.specs.Faults.{IsNothing, HasNoTag, HasNoFloor, HasNoGate, HasNoRecord, IsBadAt}
 use Rattle.log_segment.specs.Opening.{StandsAs, Finds, Opens}
 use Rattle.log_segment.specs.declared.segment.SegmentFault.{SegmentFault}
 use Rattle.log_disk.specs.Disk.{DiskState}

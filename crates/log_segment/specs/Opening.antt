@@ -8,8 +8,8 @@ use Rattle.log_disk.specs.Disk.{DiskState, Clock, may_leave, Only}
 use Rattle.log_segment.specs.declared.segment.SegmentFault.{SegmentFault}
 use Rattle.log_segment.specs.declared.segment.SegmentFault.TheVariants as opening
 use Rattle.log_segment.specs.declared.scan.Scan.{Scan}
-use Rattle.log_segment.specs.Image.{whole, IsFree, StandsFor}
-use Rattle.log_segment.specs.Faults.{IsBadAt, HoldsInUse}
+use Rattle.log_segment.specs.Image.{whole, IsFree, StandsFor, HoldsInUse}
+use Rattle.log_segment.specs.Faults.{IsBadAt}
 use Rattle.log_segment.specs.Looking.{Looks}
 use Rattle.log_segment.specs.Segment.{SegmentParts, SegmentState, told, RisesTo, entries, Stands, StandsFree}
 
