@@ -1,16 +1,18 @@
 -- The bytes of a segment are read in one way.
-use Rattle.std.proofs.Common.{◌≡◌, ◌⊎◌, inl, inr, ℕ, ◌+◌, ◌≤◌, List, [], ◌∷◌, ◌++◌, length, take, drop, codes, refl, sym, ap, subst, ◌∙◌, append_assoc, arith}
+use Rattle.std.proofs.Common.{◌≡◌, ◌⊎◌, inl, inr, ℕ, ◌+◌, ◌≤◌, List, [], ◌∷◌, ◌++◌, length, take, drop, codes, Option, Some, None, IfSome, Result, Ok, Err, IfOk, refl, sym, ap, subst, ◌∙◌, append_assoc, arith}
 use Rattle.std.proofs.lemmas.List.{append-nil, take_at, drop_at}
 use Rattle.std.proofs.lemmas.Nat.{from_be_bytes-to_be_bytes_8}
 use Rattle.std.specs.Int.{w64, from_be_bytes, to_be_bytes}
 use Rattle.bus_types.specs.declared.limits.TheConstants.{MAX_SCN}
 use Rattle.bus_types.specs.Window.{Span}
 use Rattle.bus_types.specs.Timeline.{Follows, IsTimelineFrom, end_from}
-use Rattle.log_segment.specs.Image.{records, record_bytes, head_bytes, whole, Ends, IsFree}
+use Rattle.log_segment.specs.Image.{HoldsInUse, records, record_bytes, head_bytes, whole, Ends, IsFree}
 use Rattle.log_segment.specs.Reading.{NoRecord}
-use Rattle.log_segment.specs.Faults.{HoldsInUse, IsNothing, HasNoTag, HasNoFloor, HasNoGate, HasNoRecord, IsBadAt}
-use Rattle.log_segment.specs.Opening.{StandsAs}
-use Rattle.log_segment.specs.Segment.{SegmentState, Stands, StandsFree}
+use Rattle.log_segment.specs.Faults.{IsNothing, HasNoTag, HasNoFloor, HasNoGate, HasNoRecord, IsBadAt}
+use Rattle.log_segment.specs.Opening.{StandsAs, Finds, Opens}
+use Rattle.log_segment.specs.declared.segment.SegmentFault.{SegmentFault}
+use Rattle.log_disk.specs.Disk.{DiskState}
+use Rattle.log_segment.specs.Segment.{SegmentParts, SegmentState, told, Stands, StandsFree}
 use Rattle.log_segment.proofs.Lookups.{one_record}
 
 -- ---- lists
@@ -193,3 +195,14 @@ left_windows bytes from ws s h (inr (other, vs, ends, stands)) =
 pub left_free : (bytes : List ℕ) (s : SegmentState) → IsFree bytes → StandsAs bytes s → StandsFree s
 left_free bytes s free (inl stands) = stands.1
 left_free bytes s free (inr (other, vs, ends, stands)) = absurd (not_free bytes other vs (record { low = stands.low; chained = stands.chained; ends = ends }) free)
+
+finds : (bytes : List ℕ) (s : SegmentState) → StandsAs bytes s → Finds bytes s
+finds bytes s stands = record { windows = λ from ws h. left_windows bytes from ws s h stands; free = λ free. left_free bytes s free stands }
+
+finds_told : (seen : Option (List ℕ)) (s : SegmentState) → IfSome seen (λ bytes. StandsAs bytes s) → IfSome seen (λ bytes. Finds bytes s)
+finds_told None s stands = tt
+finds_told (Some bytes) s stands = finds bytes s stands
+
+pub opens_finds : {D : Type 0} (st : D → DiskState) (disk : D) (r : Result (SegmentParts D) (SegmentFault × D)) → Opens st disk r → IfOk r (λ s. IfSome (st disk).seen (λ bytes. Finds bytes (told st s)))
+opens_finds st disk (Ok s) opened = finds_told (st disk).seen (told st s) opened.stands
+opens_finds st disk (Err x) opened = tt

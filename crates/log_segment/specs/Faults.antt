@@ -4,14 +4,8 @@ use Rattle.std.specs.Int.{w64, to_be_bytes}
 use Rattle.bus_types.specs.declared.limits.TheConstants.{MAX_SCN}
 use Rattle.bus_types.specs.Window.{Span}
 use Rattle.bus_types.specs.Timeline.{IsTimelineFrom, end_from}
-use Rattle.log_segment.specs.Image.{whole, StandsFor}
+use Rattle.log_segment.specs.Image.{whole}
 use Rattle.log_segment.specs.Reading.{NoRecord}
-
--- the bytes are a segment in use with these windows, which follow its floor and each other
-pub record HoldsInUse (from : ℕ) (ws : List Span) (bytes : List ℕ) : Type 0 where
-  pub low : from ≤ MAX_SCN
-  pub chained : IsTimelineFrom from ws
-  pub ends : StandsFor from ws bytes
 
 -- there are no bytes
 pub record IsNothing (place : ℕ) (bytes : List ℕ) : Type 0 where

@@ -8,7 +8,7 @@ use Rattle.log_disk.specs.Disk.{DiskState, Clock, may_leave, Only}
 use Rattle.log_segment.specs.declared.segment.SegmentFault.{SegmentFault}
 use Rattle.log_segment.specs.declared.segment.SegmentFault.TheVariants as opening
 use Rattle.log_segment.specs.declared.scan.Scan.{Scan}
-use Rattle.log_segment.specs.Image.{whole, IsFree, StandsFor}
+use Rattle.log_segment.specs.Image.{whole, IsFree, StandsFor, HoldsInUse}
 use Rattle.log_segment.specs.Faults.{IsBadAt}
 use Rattle.log_segment.specs.Looking.{Looks}
 use Rattle.log_segment.specs.Segment.{SegmentParts, SegmentState, told, RisesTo, entries, Stands, StandsFree}
@@ -47,6 +47,11 @@ LastsAs (Err opening.NoMemory) bytes clock = Unit {0}
 -- a segment stands for bytes: it isn't in use, or has their windows
 abbrev pub StandsAs : List ℕ → SegmentState → Type 0
 StandsAs bytes s = (IsFree bytes × StandsFree s) ⊎ ((from : ℕ) × (ws : List Span) × StandsFor from ws bytes × Stands from ws s)
+
+-- whatever left the bytes, the segment stands for the windows that they hold
+pub record Finds (bytes : List ℕ) (s : SegmentState) : Type 0 where
+  pub windows : (from : ℕ) (ws : List Span) → HoldsInUse from ws bytes → Stands from ws s
+  pub free : IsFree bytes → StandsFree s
 
 -- A disk was opened as a segment, which lost nothing yet: where the disk tells its bytes, the segment stands for them, and a
 -- crash leaves them.

@@ -1,7 +1,7 @@
 ghost use Rattle.std.specs.Prelude.{◌≡◌, ℕ, List};
 ghost use Rattle.bus_types.specs.Window.{Span};
-ghost use Rattle.log_segment.specs.Image.{IsFree};
-ghost use Rattle.log_segment.specs.Faults.{IsBadAt, HoldsInUse};
+ghost use Rattle.log_segment.specs.Image.{IsFree, HoldsInUse};
+ghost use Rattle.log_segment.specs.Faults.{IsBadAt};
 
 /// A law of the bytes of a segment: they are a segment that isn't in use, or one in use with one floor and one list of windows,
 /// or at fault at one place, and never two of these.

@@ -2,7 +2,7 @@ ghost use Rattle.std.specs.Prelude.{◌≡◌, ◌+◌, ◌≤◌, ◌<◌, ◌+
 ghost use Rattle.bus_types.specs.declared.limits.TheConstants.{MAX_SCN};
 ghost use Rattle.log_segment.specs.Image.{head_bytes, record_bytes};
 ghost use Rattle.log_segment.specs.Lookup.{ReadsNext};
-ghost use Rattle.log_segment.specs.Opening.{Opens};
+ghost use Rattle.log_segment.specs.Opening.{Opens, Finds};
 ghost use Rattle.log_segment.specs.Segment.{told, IsSegment, numbers_of, free_numbers, BeginsBehind, Frees, Appends, OnRefused, Formats, with_window};
 
 use crate::ahead::ReadFault;
@@ -110,12 +110,8 @@ impl<D: Disk> Segment<D> {
         self.high
     }
 
-    /// Takes a disk and reads its segment, once from its front to the gate that ends it, in pieces of 65,536 bytes. What was
-    /// written to the disk is made lasting first, so that a crash leaves what is told.
-    ///
-    /// `Bad` comes exactly where the disk holds no segment, with the place of the first fault. `Failed` comes only where the
-    /// disk's count of faults rose. The disk is handed back with the fault.
-    pub fn open(alloc: Global, disk: D) -> Result<Segment<D>, (SegmentFault, D)>
+    // As `open`, seen from what is read.
+    fn read(alloc: Global, disk: D) -> Result<Segment<D>, (SegmentFault, D)>
         ensures { Opens D.state disk result }
     {
         let mut disk = disk;
@@ -140,6 +136,18 @@ impl<D: Disk> Segment<D> {
             }),
             Err(fault) => Err((fault, disk)),
         }
+    }
+
+    /// Takes a disk and reads its segment, once from its front to the gate that ends it, in pieces of 65,536 bytes. What was
+    /// written to the disk is made lasting first, so that a crash leaves what is told.
+    ///
+    /// `Bad` comes exactly where the disk holds no segment, with the place of the first fault. `Failed` comes only where the
+    /// disk's count of faults rose. The disk is handed back with the fault.
+    pub fn open(alloc: Global, disk: D) -> Result<Segment<D>, (SegmentFault, D)>
+        ensures opens { Opens D.state disk result }
+        ensures finds { IfOk result (λ segment. IfSome (D.state disk).seen (λ bytes. Finds bytes (told D.state segment))) }
+    {
+        Segment::read(alloc, disk)
     }
 
     /// Its disk, as it stands.
