@@ -5,6 +5,7 @@ use Rattle.bus_types.specs.Timeline.{IsTimeline}
 use Rattle.event_codec.specs.Questions.{Reply}
 use Rattle.event_codec.specs.Forms.{bytes_of}
 use Rattle.bus_wire.specs.declared.ask.Ask.{Ask}
+use Rattle.bus_wire.specs.declared.ask.Ask.TheVariants as asks
 use Rattle.bus_wire.specs.Asks.{IsAsk}
 use Rattle.bus_wire.specs.Booted.{IsLawfullyBooted}
 use Rattle.bootstrap_core.specs.Boot.{BootState, Stands}
@@ -24,3 +25,14 @@ pub record IsReplyTo (ws : List Span) (high : ℕ) (ask : Ask) (bytes : List ℕ
 -- timeline for which it stands
 abbrev pub MayReply : BootState → Ask → List ℕ → Type 0
 MayReply b ask bytes = (ws : List Span) → IsTimeline ws → Stands ws b → IsTold b → IsAsk ask → IsReplyTo ws b.log.high ask bytes
+
+-- ---- the code's words
+
+-- what a log answers without the keeper
+abbrev pub AsksLog : Ask → Type 0
+AsksLog (asks.Stream scn filter max) = ⊥
+AsksLog (asks.Start since fresh) = ⊥
+AsksLog (asks.Scan start cursor filter max) = ⊥
+AsksLog (asks.Target start atleast) = ⊥
+AsksLog (asks.Catchup at target filter max) = Unit {0}
+AsksLog (asks.Delta since target cursor filter max) = Unit {0}

@@ -19,7 +19,7 @@ ghost use Rattle.snapshot_scan.specs.Chunk.{Appends};
 ghost use Rattle.snapshot_scan.specs.Filling.{Extends};
 ghost use Rattle.bootstrap_core.specs.Boot.{told, numbers, Stands, HoldsStretch};
 ghost use Rattle.bootstrap_core.specs.Moving.{TellsWindows};
-ghost use Rattle.bootstrap_core.specs.Answering.{IsTold};
+ghost use Rattle.bootstrap_core.specs.Answering.{IsTold, AsksLog};
 ghost use Rattle.bootstrap_core.specs.Replaying.{OnlyReadsLog};
 
 use crate::boot::Boot;
@@ -243,6 +243,50 @@ fn consolidate<G: WindowLog>(
     delta(alloc, log, since, target, cursor, filter, max, reply)
 }
 
+// Appends what a log answers to a catch-up or to an ask for a delta.
+fn answer_by_log<G: WindowLog>(
+    alloc: Global,
+    log: &mut G,
+    mark: &BootMark,
+    ask: &Ask,
+    reply: &mut Vec<u8>,
+) -> Result<Shape, BootFault>
+    requires log { AsksLog ask.now }
+    requires lawful { IsBootMark mark.now }
+    requires low { (G.state log.old).floor ≤ mark.now.base }
+    ensures reply { (ws : List Span) → HoldsStretch ws (G.state log.old) → TellsWindows (G.state log.old) →
+        IfOk result (λ shape. Appends (boot_reply ws (test_in ask.now) (numbers (G.state log.old) mark.now) (question_of ask.now))
+        shape reply.old.items reply.new.items) }
+    ensures front { OnOk result (Extends reply.old.items reply.new.items) }
+    ensures err { OnErr result (reply.new.items ≡ reply.old.items) }
+    ensures same { SameLog (G.state log.old) (G.state log.new) }
+    ensures crash { IfSome (G.state log.old).windows (λ ws. G.passes ws (at_rest (G.state log.old)) log.old log.new) }
+    ensures faults { (G.state log.old).faults ≤ (G.state log.new).faults }
+    ensures failed { IsErrOf result BootFault.LogFailed → Rose (G.state log.old).faults (G.state log.new).faults }
+    ensures sound { IsErrOf result BootFault.LogFailed → IfSome (G.state log.old).room (λ room. room.sound ≡ false) }
+    ensures never_store { IsErrOf result BootFault.StoreFailed → ⊥ }
+    ensures never_halted { IsErrOf result BootFault.Halted → ⊥ }
+{
+    match ask {
+        Ask::Catchup {
+            at,
+            target,
+            filter,
+            max,
+        } => catch_up(alloc, log, mark, *at, *target, filter, *max, reply),
+        Ask::Delta {
+            since,
+            target,
+            cursor,
+            filter,
+            max,
+        } => consolidate(
+            alloc, log, mark, *since, *target, cursor, filter, *max, reply,
+        ),
+        _ => unreachable!(),
+    }
+}
+
 impl<G: WindowLog, K: Keeper> Boot<G, K> {
     /// Appends what a bootstrap answers to an ask that isn't for a stream, and tells its shape.
     ///
@@ -290,6 +334,7 @@ impl<G: WindowLog, K: Keeper> Boot<G, K> {
             return Err(BootFault::Halted);
         }
         let _rests = self.log.high();
+        let mark = self.mark;
         match ask {
             Ask::Stream { .. } => unreachable!(),
             Ask::Start { since, fresh } => self.put_start(*since, *fresh, reply),
@@ -302,45 +347,15 @@ impl<G: WindowLog, K: Keeper> Boot<G, K> {
             } => scan(
                 alloc,
                 &mut self.keeper,
-                &self.mark,
+                &mark,
                 *start,
                 cursor,
                 filter,
                 *max,
                 reply,
             ),
-            Ask::Catchup {
-                at,
-                target,
-                filter,
-                max,
-            } => catch_up(
-                alloc,
-                &mut self.log,
-                &self.mark,
-                *at,
-                *target,
-                filter,
-                *max,
-                reply,
-            ),
-            Ask::Delta {
-                since,
-                target,
-                cursor,
-                filter,
-                max,
-            } => consolidate(
-                alloc,
-                &mut self.log,
-                &self.mark,
-                *since,
-                *target,
-                cursor,
-                filter,
-                *max,
-                reply,
-            ),
+            Ask::Catchup { .. } => answer_by_log(alloc, &mut self.log, &mark, ask, reply),
+            Ask::Delta { .. } => answer_by_log(alloc, &mut self.log, &mark, ask, reply),
         }
     }
 
