@@ -1,14 +1,15 @@
 -- The windows of a reply: they follow each other, and its bytes are split into them.
-use Rattle.std.proofs.Common.{◌≡◌, ℕ, true, inl, inr, List, [], ◌∷◌, length, refl, sym, ap, subst, ◌∙◌, append-nil, arith}
+use Rattle.std.proofs.Common.{◌≡◌, ℕ, zero, suc, true, inl, inr, List, [], ◌∷◌, length, take, refl, sym, subst, ◌∙◌, append-nil, arith}
 use Rattle.std.specs.List.{AllByRecursion}
 use Rattle.std.proofs.lemmas.Bool.{ltb-true, eqb-true}
 use Rattle.bus_types.specs.declared.limits.TheConstants.{MAX_SCN}
-use Rattle.bus_types.specs.Window.{Span}
+use Rattle.bus_types.specs.Window.{Span, IsSpan}
 use Rattle.bus_types.specs.Timeline.{IsTimelineFrom}
 use Rattle.partition_filter.specs.Selection.Selection.{All}
 use Rattle.event_codec.specs.Items.{Since, front_of}
 use Rattle.event_codec.specs.Items.Front.{Unfinished, Refused}
-use Rattle.event_codec.specs.Streams.{Come, after_windows, windows_bytes, Behind, IsReading}
+use Rattle.event_codec.specs.Streams.{Come, after_window, after_windows, windows_bytes, Behind, IsReading}
+use Rattle.event_codec.specs.Parsing.{AreWindows}
 use Rattle.event_codec.proofs.Readings.{one_reading, one_place}
 use Rattle.bus_wire.specs.Lawful.{IsAskedFor, after_floor, IsRun}
 use Rattle.window_stream.specs.Stream.{Split, new_split, TakesAll, FindsBad}
@@ -42,22 +43,23 @@ nothing_behind s = record {
   stops = refl;
 }
 
-module _ (scn : ℕ) (bytes : List ℕ) (ws : List Span) (are : AreWindowsBehind scn bytes ws) where
+-- windows that come, one after the other, behind an SCN
+module _ (scn : ℕ) (bytes : List ℕ) (ws : List Span) (come : Come (after_floor scn) ws) (spelled : bytes ≡ windows_bytes ws) where
   read : IsReading (after_floor scn) bytes ws []
   read = record {
-    parts = are.spelled ∙ sym (append-nil (windows_bytes ws));
-    come = are.run.asked.come;
+    parts = spelled ∙ sym (append-nil (windows_bytes ws));
+    come = come;
     stops = inl (nothing_behind (after_windows (after_floor scn) ws));
   }
 
-  -- its windows are given
-  pub split_whole : (new : Split) (found : List Span) → TakesAll (new_split scn) bytes new [] found → AreWindowsBehind scn bytes found
+  -- they are given
+  pub split_whole : (new : Split) (found : List Span) → TakesAll (new_split scn) bytes new [] found → found ≡ ws
   split_whole new found takes =
       let gives = takes.gives in
       let behind : Behind (after_windows (after_floor scn) gives.windows) new.rest Unfinished = subst (λ (s : Since). Behind s new.rest Unfinished) takes.since takes.behind in
       let given : IsReading (after_floor scn) bytes gives.windows new.rest = record { parts = gives.bytes; come = gives.come; stops = inl behind } in
       let same = one_reading (after_floor scn) bytes ws gives.windows [] new.rest read given in
-      subst (λ (vs : List Span). AreWindowsBehind scn bytes vs) (same.0 ∙ sym gives.given) are
+      gives.given ∙ sym same.0
 
   -- no head is bad
   pub split_good : (place : ℕ) (new : Split) (found : List Span) → FindsBad (new_split scn) bytes place new [] found → ⊥
@@ -69,3 +71,17 @@ module _ (scn : ℕ) (bytes : List ℕ) (ws : List Span) (are : AreWindowsBehind
       let whole : Behind since bad.rest Unfinished = subst (λ (rest : List ℕ). Behind since rest Unfinished) same.1 (nothing_behind since) in
       let fronts = one_place since bad.rest Unfinished Refused whole bad.behind (inl refl) (inr refl) in
       absurd (cc (fronts.0))
+
+-- the first so many windows come too
+pub come_first : (n : ℕ) (s : Since) (ws : List Span) → Come s ws → Come s (take n ws)
+come_first zero s ws come = tt
+come_first (suc n) s [] come = tt
+come_first (suc n) s (w ∷ ws) come = (come.0, come_first n (after_window s w) ws come.1)
+
+come_spans : (s : Since) (ws : List Span) → Come s ws → AllByRecursion IsSpan ws
+come_spans s [] come = tt
+come_spans s (w ∷ ws) come = (come.0.within, come_spans (after_window s w) ws come.1)
+
+-- the bytes of a reply are its windows
+pub reply_windows : (scn : ℕ) (bytes : List ℕ) (ws : List Span) → AreWindowsBehind scn bytes ws → AreWindows ws bytes
+reply_windows scn bytes ws are = record { within = come_spans (after_floor scn) ws are.run.asked.come; spelled = are.spelled }

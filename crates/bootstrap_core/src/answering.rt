@@ -69,6 +69,7 @@ fn scan<K: Keeper>(
     ensures calls { BothTold (λ a b. a ≤ b) (K.state keeper.old).calls (K.state keeper.new).calls }
     ensures faults { (K.state keeper.old).faults ≤ (K.state keeper.new).faults }
     ensures store { IsErrOf result BootFault.StoreFailed → Rose (K.state keeper.old).faults (K.state keeper.new).faults }
+    ensures sound { IsErrOf result BootFault.StoreFailed → IfSome (K.state keeper.old).stops (λ s. s.sound ≡ false) }
     ensures never_log { IsErrOf result BootFault.LogFailed → ⊥ }
     ensures never_halted { IsErrOf result BootFault.Halted → ⊥ }
 {
@@ -125,6 +126,7 @@ fn replay_log<G: WindowLog>(
     ensures crash { IfSome (G.state log.old).windows (λ ws. G.passes ws (at_rest (G.state log.old)) log.old log.new) }
     ensures faults { (G.state log.old).faults ≤ (G.state log.new).faults }
     ensures failed { IsErrOf result BootFault.LogFailed → Rose (G.state log.old).faults (G.state log.new).faults }
+    ensures sound { IsErrOf result BootFault.LogFailed → IfSome (G.state log.old).room (λ room. room.sound ≡ false) }
     ensures never_store { IsErrOf result BootFault.StoreFailed → ⊥ }
     ensures never_halted { IsErrOf result BootFault.Halted → ⊥ }
 {
@@ -168,6 +170,7 @@ fn catch_up<G: WindowLog>(
     ensures crash { IfSome (G.state log.old).windows (λ ws. G.passes ws (at_rest (G.state log.old)) log.old log.new) }
     ensures faults { (G.state log.old).faults ≤ (G.state log.new).faults }
     ensures failed { IsErrOf result BootFault.LogFailed → Rose (G.state log.old).faults (G.state log.new).faults }
+    ensures sound { IsErrOf result BootFault.LogFailed → IfSome (G.state log.old).room (λ room. room.sound ≡ false) }
     ensures never_store { IsErrOf result BootFault.StoreFailed → ⊥ }
     ensures never_halted { IsErrOf result BootFault.Halted → ⊥ }
 {
@@ -223,6 +226,7 @@ fn consolidate<G: WindowLog>(
     ensures crash { IfSome (G.state log.old).windows (λ ws. G.passes ws (at_rest (G.state log.old)) log.old log.new) }
     ensures faults { (G.state log.old).faults ≤ (G.state log.new).faults }
     ensures failed { IsErrOf result BootFault.LogFailed → Rose (G.state log.old).faults (G.state log.new).faults }
+    ensures sound { IsErrOf result BootFault.LogFailed → IfSome (G.state log.old).room (λ room. room.sound ≡ false) }
     ensures never_store { IsErrOf result BootFault.StoreFailed → ⊥ }
     ensures never_halted { IsErrOf result BootFault.Halted → ⊥ }
 {
@@ -259,6 +263,7 @@ fn answer_by_log<G: WindowLog>(
     ensures crash { IfSome (G.state log.old).windows (λ ws. G.passes ws (at_rest (G.state log.old)) log.old log.new) }
     ensures faults { (G.state log.old).faults ≤ (G.state log.new).faults }
     ensures failed { IsErrOf result BootFault.LogFailed → Rose (G.state log.old).faults (G.state log.new).faults }
+    ensures sound { IsErrOf result BootFault.LogFailed → IfSome (G.state log.old).room (λ room. room.sound ≡ false) }
     ensures never_store { IsErrOf result BootFault.StoreFailed → ⊥ }
     ensures never_halted { IsErrOf result BootFault.Halted → ⊥ }
 {
@@ -321,6 +326,8 @@ impl<G: WindowLog, K: Keeper> Boot<G, K> {
         ensures calls { BothTold (λ a b. a ≤ b) (K.state self.old.keeper).calls (K.state self.new.keeper).calls }
         ensures log { IsErrOf result BootFault.LogFailed → Rose (G.state self.old.log).faults (G.state self.new.log).faults }
         ensures store { IsErrOf result BootFault.StoreFailed → Rose (K.state self.old.keeper).faults (K.state self.new.keeper).faults }
+        ensures sound_log { IsErrOf result BootFault.LogFailed → IfSome (G.state self.old.log).room (λ room. room.sound ≡ false) }
+        ensures sound_store { IsErrOf result BootFault.StoreFailed → IfSome (K.state self.old.keeper).stops (λ s. s.sound ≡ false) }
         ensures crash { self.old.halted ≡ false → IfSome (G.state self.old.log).windows (λ ws. G.passes ws (at_rest (G.state self.old.log)) self.old.log self.new.log) }
     {
         if self.halted {

@@ -1,9 +1,10 @@
-ghost use Rattle.std.specs.Prelude.{◌≡◌, ◌≤◌, ◌+◌, ◌++◌, List, ℕ, length};
-ghost use Rattle.bus_types.specs.Window.{Span, span_size, IsSpan};
-ghost use Rattle.event_codec.specs.Bytes.{StandsAt, window_bytes, mark_bytes};
+ghost use Rattle.std.specs.Prelude.{◌≡◌, ◌≤◌, List, ℕ, length, take};
+ghost use Rattle.bus_types.specs.Window.{Span};
+ghost use Rattle.event_codec.specs.Parsing.{AreWindows, HaveWindows};
+ghost use Rattle.event_codec.specs.Streams.{windows_bytes};
 ghost use Rattle.bootstrap_core.specs.Logging.{AreWindowsBehind, IsFirstMark};
 
-use event_codec::{EventView, mark_at};
+use event_codec::{MARK_SIZE, Windows};
 
 // The place of the mark of the first of these windows, and the SCN before that window. It takes no memory.
 pub(crate) fn first_mark(bytes: &[u8]) -> (usize, u64)
@@ -11,22 +12,16 @@ pub(crate) fn first_mark(bytes: &[u8]) -> (usize, u64)
     ensures mark { (high : ℕ) (ws : List Span) → AreWindowsBehind high bytes.now ws → IsFirstMark ws result.0 result.1 }
     ensures within { result.0 ≤ length bytes.now }
 {
-    let place = events_end(bytes);
-    let Some((_scn, prev)) = mark_at(bytes, place) else {
+    let Some(window) = Windows::of(bytes).next() else {
         unreachable!()
     };
-    (place, prev)
+    (window.bytes().len() - MARK_SIZE, window.prev())
 }
 
-// The place behind the events that bytes begin with.
-fn events_end(bytes: &[u8]) -> usize
-    ensures size { (w : Span) (rest : List ℕ) → IsSpan w → bytes.now ≡ window_bytes w ++ rest → result + 17 ≡ span_size w }
-    ensures mark { (w : Span) (rest : List ℕ) → IsSpan w → bytes.now ≡ window_bytes w ++ rest → StandsAt bytes.now result (mark_bytes w.scn w.prev) (result + 17) }
-    ensures within { result ≤ length bytes.now }
+// The bytes of the first so many of these windows, or of those there are.
+pub(crate) fn first_windows(bytes: &[u8], count: u32) -> &[u8]
+    requires { HaveWindows bytes.now }
+    ensures { (ws : List Span) → AreWindows ws bytes.now → result.now ≡ windows_bytes (take count ws) }
 {
-    let mut place = 0;
-    'events: while let Some((_view, next)) = EventView::at(bytes, place) {
-        place = next;
-    }
-    place
+    Windows::of(bytes).first(count as usize).bytes()
 }

@@ -8,7 +8,7 @@ ghost use Rattle.bootstrap_core.specs.Logging.{log_ask, TakesLog, IsAnswered, Is
 
 use crate::boot::Boot;
 use crate::fault::TakeLog;
-use crate::first::first_mark;
+use crate::first::{first_mark, first_windows};
 use bus_stores::{Keeper, LogFault, WindowLog};
 use bus_types::Window;
 use bus_wire::{Ask, check_reply};
@@ -25,7 +25,7 @@ const MARK_SIZE: u64 = 17;
 
 impl<G: WindowLog, K: Keeper> Boot<G, K> {
     /// Takes the relay's reply to who asked for the windows behind `high`, with all rows, in at most 16,777,216 bytes, and
-    /// appends its first `n` windows to the log, or those there are. It answers `high` after that.
+    /// appends its first `n` windows to the log, or those there are. It answers `high` after that. Only those are built.
     ///
     /// `Halted` comes exactly after a fault of log or keeper. `BadReply` comes exactly where the bytes are no lawful reply, or
     /// where their first window doesn't follow the log's newest one, with the place of that window's mark. `Gap` comes exactly
@@ -77,10 +77,10 @@ impl<G: WindowLog, K: Keeper> Boot<G, K> {
     {
         let _rests = self.log.high();
         let windows = self.windows_to_log(alloc, high, reply, n)?;
-        self.log_each(alloc, first_of(&windows, n))
+        self.log_each(alloc, &windows)
     }
 
-    // The windows of a reply, where nothing speaks against the first of them.
+    // The first n windows of a reply, where nothing speaks against the first of them.
     fn windows_to_log(
         &self,
         alloc: Global,
@@ -90,13 +90,13 @@ impl<G: WindowLog, K: Keeper> Boot<G, K> {
     ) -> Result<Vec<Window>, TakeLog>
         requires high { high ≡ (G.state self.now.log).high }
         requires windows { (ws : List Span) × AreWindowsBehind high reply.now ws }
-        ensures windows { IfOk result (λ windows. AreWindowsBehind high reply.now windows.items × IsChained high windows.items) }
+        ensures windows { IfOk result (λ windows. (ws : List Span) → AreWindowsBehind high reply.now ws → (windows.items ≡ take n ws) × IsChained high ws) }
         ensures fault { IfErr result (λ fault. TakesLog (Err fault) n reply.now (told G.state K.state self.now) (told G.state K.state self.now)) }
         ensures runs { IsErrOf result TakeLog.Halted → ⊥ }
     {
         match self.first_fault(high, reply, n) {
             Some(fault) => Err(fault),
-            None => split(alloc, high, reply),
+            None => split(alloc, high, reply, n),
         }
     }
 
@@ -193,27 +193,16 @@ fn answered(high: u64, answer: &Answer) -> Result<u64, TakeLog>
     }
 }
 
-// The windows of a reply, behind an SCN.
-fn split(alloc: Global, high: u64, reply: &[u8]) -> Result<Vec<Window>, TakeLog>
+// The first n windows of a reply, behind an SCN. No other is built.
+fn split(alloc: Global, high: u64, reply: &[u8], n: u32) -> Result<Vec<Window>, TakeLog>
     requires { (ws : List Span) × AreWindowsBehind high reply.now ws }
-    ensures windows { IfOk result (λ windows. AreWindowsBehind high reply.now windows.items) }
+    ensures windows { IfOk result (λ windows. (ws : List Span) → AreWindowsBehind high reply.now ws → windows.items ≡ take n ws) }
     ensures fault { IfErr result (λ fault. fault ≡ TakeLog.NoMemory) }
 {
     let mut windows = Vec::new(alloc);
-    match Splitter::new(alloc, high).feed(alloc, reply, &mut windows) {
+    match Splitter::new(alloc, high).feed(alloc, first_windows(reply, n), &mut windows) {
         Ok(()) => Ok(windows),
         Err(SplitFault::NoMemory) => Err(TakeLog::NoMemory),
         Err(SplitFault::Bad { .. }) => unreachable!(),
-    }
-}
-
-// The first so many windows, or those there are.
-fn first_of(windows: &[Window], n: u32) -> &[Window]
-    ensures { result.now ≡ take n windows.now }
-{
-    if (n as usize) < windows.len() {
-        &windows[..n as usize]
-    } else {
-        windows
     }
 }

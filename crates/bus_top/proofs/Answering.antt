@@ -22,7 +22,7 @@ use Rattle.trace_script.specs.declared.line.Line.{Line}
 use Rattle.trace_script.specs.declared.line.Line.TheVariants.{Blank, Relay, Consumer, Commit, Feed, Log, Apply, Trim, RestartBoot, Poll, Crash, Stop, Show, Stream}
 use Rattle.trace_script.specs.Spelling.{is_in_range}
 use Rattle.history_core.specs.Script.{Follower, State, floor}
-use Rattle.history_core.specs.Steps.{Step, begin, place_of, at_name_if, with_consumer, replied, is_followed, after_reply, asked, poll_step, stream_step}
+use Rattle.history_core.specs.Steps.{Step, begin, place_of, at_name, with_consumer, replied, after_reply, asked, poll_step, stream_step}
 use Rattle.history_core.specs.Run.{act, line_step}
 use Rattle.bus_top.specs.Headline.{evicted_after, published_after, IsAnswer, IsAnswered}
 use Rattle.bus_top.proofs.Placed.{IsPlaced}
@@ -101,13 +101,9 @@ acted false step r e = absurd cc
 begun_text : (s next : State) (text printed : List ℕ) → begin (Some (s, text)) ≡ Some (next, printed) → printed ≡ text
 begun_text s next text printed e = sym (some_pair_parts (record s { begun = true }) next text printed e).1
 
--- what a poll prints that is taken
-polled_text : (b : Bool) (s next : State) (i : ℕ) (a : Follower × List ℕ) (text : List ℕ) → begin (option_map (λ (a : Follower × List ℕ). (with_consumer s i a.0, a.1)) (cond b (Some a) None)) ≡ Some (next, text) → text ≡ a.1
-polled_text true s next i a text e = begun_text (with_consumer s i a.0) next a.1 text e
-polled_text false s next i a text e = absurd cc
-
 -- a line that names a consumer which is known
-named_at : (s : State) (name : List ℕ) (act : Follower → Option (Follower × List ℕ)) (i : ℕ) (c : Follower) → place_of name s.consumers ≡ Some i → slice_get s.consumers i ≡ Some c → at_name_if s name act ≡ option_map (λ (a : Follower × List ℕ). (with_consumer s i a.0, a.1)) (act c)
+named_at : (s : State) (name : List ℕ) (act : Follower → Follower × List ℕ) (i : ℕ) (c : Follower) → place_of name s.consumers ≡ Some i → slice_get s.consumers i ≡ Some c
+    → at_name s name (λ j d. (with_consumer s j (act d).0, (act d).1)) ≡ Some (with_consumer s i (act c).0, (act c).1)
 named_at s name act i c place at = rw (place, at) refl
 
 -- what is asked by who is online and wants nothing else
@@ -118,9 +114,8 @@ poll_answered : (s : State) (name : List ℕ) (max : ℕ) (next : State) (text :
 unfolding poll_step
 poll_answered s name max next text h e = λ i scn c place at mark wish.
     let answer : Served = stream s.windows (floor s) s.end scn (test_of c.filter) max in
-    let reply : Reply = replied s.windows (floor s) s.end s.boot (test_of c.filter) (question c.mark c.wish max) in
-    let taken : begin (option_map (λ (a : Follower × List ℕ). (with_consumer s i a.0, a.1)) (asked s c max)) ≡ Some (next, text) = ap begin (sym (named_at s name (λ c. asked s c max) i c place at)) ∙ e in
-    (answer, answers s scn (test_of c.filter) max h, polled_text (is_followed reply) s next i (after_reply c reply) text taken ∙ ap (λ (r : Reply). (after_reply c r).1) (online_asks s c scn max mark wish))
+    let taken : begin (Some (with_consumer s i (asked s c max).0, (asked s c max).1)) ≡ Some (next, text) = ap begin (sym (named_at s name (λ d. asked s d max) i c place at)) ∙ e in
+    (answer, answers s scn (test_of c.filter) max h, begun_text (with_consumer s i (asked s c max).0) next (asked s c max).1 text taken ∙ ap (λ (r : Reply). (after_reply c r).1) (online_asks s c scn max mark wish))
 
 stream_answered : (s : State) (scn : ℕ) (filter : Selection) (max : ℕ) (next : State) (text : List ℕ) → IsPlaced s → begin (stream_step s scn (test_of filter) max) ≡ Some (next, text) → IsAnswered s (Stream scn filter max) text
 unfolding stream_step

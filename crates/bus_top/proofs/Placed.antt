@@ -17,8 +17,9 @@ use Rattle.trace_script.specs.declared.line.Line.TheVariants.{Blank, Relay, Cons
 use Rattle.trace_script.specs.Lines.{line_of}
 use Rattle.trace_script.specs.Spelling.{is_in_range}
 use Rattle.trace_script.specs.Input.{RawLine, is_too_long}
-use Rattle.history_core.specs.Script.{Follower, State, floor, gap_line, shown}
-use Rattle.history_core.specs.Steps.{Step, begin, place_of, at_name, at_name_if, with_consumer, booted, logged, next_window, fed, asked, looked_at, relay_step, consumer_step, commit_step, feed_step, log_step, apply_step, trim_step, restart_step, poll_step, crash_step, stop_step, show_step, stream_step}
+use Rattle.trace_script.specs.Printed.{gap_line}
+use Rattle.history_core.specs.Script.{Follower, State, floor, shown}
+use Rattle.history_core.specs.Steps.{Step, begin, place_of, at_name, with_consumer, booted, logged, next_window, fed, asked, looked_at, relay_step, consumer_step, commit_step, feed_step, log_step, apply_step, trim_step, restart_step, poll_step, crash_step, stop_step, show_step, stream_step}
 use Rattle.history_core.specs.Run.{act, line_step, text_step, TooLongAt, Played, ended, play_on, played}
 
 -- the SCN of the newest published window is one of the source's, or 0
@@ -94,21 +95,6 @@ leads_named s name step h = found (place_of name s.consumers)
     found None = leads_none
     found (Some i) = done i (slice_get s.consumers i)
 
-leads_named_if : (s : State) (name : List ℕ) (act : Follower → Option (Follower × List ℕ)) → IsPlaced s → Leads (at_name_if s name act)
-leads_named_if s name act h = found (place_of name s.consumers)
-  where
-    acted : (i : ℕ) (o : Option (Follower × List ℕ)) → Leads (option_map (λ (a : Follower × List ℕ). (with_consumer s i a.0, a.1)) o)
-    acted i None = leads_none
-    acted i (Some a) = leads_some (with_consumer s i a.0) a.1 h
-
-    done : (i : ℕ) (o : Option Follower) → Leads (option_and_then (λ (c : Follower). option_map (λ (a : Follower × List ℕ). (with_consumer s i a.0, a.1)) (act c)) o)
-    done i None = leads_none
-    done i (Some c) = acted i (act c)
-
-    found : (o : Option ℕ) → Leads (option_and_then (λ i. option_and_then (λ (c : Follower). option_map (λ (a : Follower × List ℕ). (with_consumer s i a.0, a.1)) (act c)) (slice_get s.consumers i)) o)
-    found None = leads_none
-    found (Some i) = done i (slice_get s.consumers i)
-
 leads_act : (s : State) (line : Line) → IsPlaced s → Leads (act s line)
 unfolding relay_step consumer_step commit_step feed_step log_step apply_step trim_step restart_step poll_step crash_step stop_step show_step stream_step
 leads_act s Blank h = leads_some s [] h
@@ -121,7 +107,7 @@ leads_act s (Log count) h =
 leads_act s (Apply count) h = leads_begin (apply_step s count) (leads_some _ _ h)
 leads_act s (Trim scn) h = leads_begin (trim_step s scn) (leads_some _ _ h)
 leads_act s RestartBoot h = leads_begin (restart_step s) (leads_some _ _ h)
-leads_act s (Poll name max) h = leads_begin (poll_step s name max) (leads_named_if s name (λ c. asked s c max) h)
+leads_act s (Poll name max) h = leads_begin (poll_step s name max) (leads_named s name (λ c. asked s c max) h)
 leads_act s (Crash name) h = leads_begin (crash_step s name) (leads_named s name (λ c. (record c { wish = NoWish }, [])) h)
 leads_act s (Stop name after) h = leads_begin (stop_step s name (stop_at after)) (leads_named s name (λ c. (record c { armed = Some (stop_at after) }, [])) h)
 leads_act s (Show name) h = leads_begin (show_step s name) (leads_named s name (λ c. (looked_at c.mark c, shown s.windows c c.mark)) h)

@@ -1,17 +1,12 @@
 -- Runs over lines that come one after the other.
-use Rattle.std.proofs.Common.{◌≡◌, ℕ, ◌+◌, ◌<◌, ◌≤◌, Bool, true, false, List, [], ◌∷◌, ◌++◌, Some, None, length, refl, sym, ap, ◌∙◌, subst, append_assoc, append-nil, arith}
-use Rattle.std.specs.Prelude.{nat_le, nat_lt, ◌||◌}
+use Rattle.std.proofs.Common.{◌≡◌, ℕ, ◌+◌, true, false, List, [], ◌∷◌, ◌++◌, Some, None, length, refl, sym, ap, ◌∙◌, subst, append_assoc, append-nil}
 use Rattle.std.specs.Io.{StartsWith}
-use Rattle.std.proofs.lemmas.Bool.{leb-false, ltb-false}
 use Rattle.std.proofs.lemmas.List.{take_at}
-use Rattle.trace_script.specs.Input.{RawLine, IsPart, lines_of, most_lines, longest_line, longest_input, is_too_long}
-use Rattle.trace_script.proofs.LineLaws.{is_long_part, long_part}
+use Rattle.trace_script.specs.Input.{RawLine, is_too_long}
 use Rattle.history_core.specs.Script.{State}
 use Rattle.history_core.specs.Run.{Ending, Played, before, ended, played, text_step}
 use Rattle.history_core.specs.Run.Ending.{Finished, BadAt, TooLongAt}
 use Rattle.history_core.specs.Bus.{Parts, state_of, IsSound}
-use Rattle.bus_top.specs.declared.session.Place.{Place}
-use Rattle.bus_top.specs.Session.{is_long}
 
 -- text before text
 pub before-before : (a b : List ℕ) (p : Played) → before a (before b p) ≡ before (a ++ b) p
@@ -31,12 +26,6 @@ bad_line s count used raw ls h e = rw (h, e) refl
 pub good_line : (s next : State) (count used : ℕ) (raw : RawLine) (printed : List ℕ) (ls : List RawLine) → is_too_long count used raw ≡ false → text_step s raw.text ≡ Some (next, printed) → played s count used (raw ∷ ls) ≡ before printed (played next (count + 1) (used + raw.size) ls)
 unfolding played
 good_line s next count used raw printed ls h e = rw (h, e) refl
-
--- a part of a line that is too long already stops a run, however it goes on
-pub part_stops : (s : State) (count used : ℕ) (part rest : List ℕ) → IsPart part → 0 < length part → is_long_part count used part ≡ true → played s count used (lines_of (part ++ rest)) ≡ ended (TooLongAt (count + 1)) s
-part_stops s count used part rest p some long =
-    let b = long_part count used part rest p some long in
-    ap (played s count used) b.parts ∙ long_line s count used b.first b.others b.long
 
 -- no line is at its end
 pub no_line : (s : State) (count used : ℕ) → played s count used [] ≡ ended Finished s
@@ -67,16 +56,3 @@ goes_on text more printed s next count used raw m h e ls =
 -- a text begins with itself, whatever stands behind it
 pub starts : (text more : List ℕ) → StartsWith (text ++ more) text
 starts text more = take_at text more (length text) refl
-
-none_holds : (a b c : Bool) → (a || b || c) ≡ false → (a ≡ false) × (b ≡ false) × (c ≡ false)
-none_holds true b c h = absurd cc
-none_holds false true c h = absurd cc
-none_holds false false true h = absurd cc
-none_holds false false false h = (refl, refl, refl)
-
--- a line that isn't too long leaves the next place within the limits
-pub within_next : (p : Place) (line size : ℕ) → is_long p line size ≡ false → (p.count + 1 ≤ most_lines) × (p.used + size ≤ longest_input)
-within_next p line size h =
-    let n = none_holds (nat_le most_lines p.count) (nat_lt longest_line line) (nat_lt longest_input (p.used + size)) h in
-    let few = leb-false most_lines p.count n.0 in
-    (omega arith, ltb-false longest_input (p.used + size) n.2)

@@ -1,4 +1,5 @@
 pub mod Session
 pub mod Trace
+pub mod Turns
 pub mod Headline
 pub mod Status

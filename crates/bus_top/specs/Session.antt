@@ -1,8 +1,11 @@
--- A script that comes in pieces, against its meaning.
-use Rattle.std.specs.Prelude.{◌≡◌, ℕ, ◌+◌, ◌≤◌, ◌<◌, Bool, true, ◌||◌, nat_lt, nat_le, List, [], ◌∷◌, ◌++◌, length, take, Option, Some, None, Result, Ok, Err}
+-- For private functions alone: a script that comes in pieces, against its meaning.
+use Rattle.std.specs.Prelude.{◌≡◌, ℕ, ◌+◌, ◌≤◌, List, [], ◌∷◌, ◌++◌, length, take, Option, Some, None, Result, Ok, Err}
 use Rattle.std.specs.Io.{StartsWith}
 use Rattle.std.specs.Io.KnownBytes.{Appends, Consumes}
-use Rattle.trace_script.specs.Input.{RawLine, IsPart, IsWhole, lines_of, most_lines, longest_line, longest_input}
+use Rattle.trace_script.specs.Input.{IsPart, IsWhole, lines_of, longest_input}
+use Rattle.trace_script.specs.Cutting.{Cut, Holds}
+use Rattle.trace_script.specs.declared.fault.CutFault.{CutFault}
+use Rattle.trace_script.specs.declared.fault.CutFault.TheVariants.{TooLong as LongLine, NoMemory as NoRoomForLine}
 use Rattle.history_core.specs.Script.{State}
 use Rattle.history_core.specs.Run.{Played, before, ended, played, script}
 use Rattle.history_core.specs.Run.Ending.{Finished, BadAt, TooLongAt}
@@ -10,10 +13,14 @@ use Rattle.history_core.specs.declared.fault.StepFault.{StepFault}
 use Rattle.history_core.specs.declared.fault.StepFault.TheVariants.{BadLine as BadStep, WriteFault as NoWrite, NoMemory as NoRoom}
 use Rattle.history_core.specs.Steps.{Step}
 use Rattle.history_core.specs.Bus.{Parts, state_of, IsSound, TookLine}
-use Rattle.bus_top.specs.declared.session.Place.{Place}
 use Rattle.bus_top.specs.declared.session.Session.{Session}
 use Rattle.bus_top.specs.declared.session.Stop.{Stop}
 use Rattle.bus_top.specs.declared.session.Stop.TheVariants.{BadLine, TooLong, WriteFault, NoMemory}
+
+-- an input that isn't cut into lines any further stops its script
+abbrev pub cut_stop : CutFault → Stop
+cut_stop (LongLine n) = TooLong n
+cut_stop NoRoomForLine = NoMemory
 
 -- one text and what follows it, and another, are the same run whatever comes
 abbrev pub SameRun : {X : Type 0} → List ℕ → (X → Played) → List ℕ → (X → Played) → Type 0
@@ -27,39 +34,58 @@ Stops {X} (TooLong n) text text' b plays = IsSound b × ((x : X) → plays x ≡
 Stops {X} WriteFault text text' b plays = ⊥
 Stops {X} NoMemory text text' b plays = text' ≡ text
 
--- what lines do to a bus from a place on
-abbrev pub run_lines : Parts → Place → List RawLine → Played
-run_lines b p ls = played (state_of b) p.count p.used ls
+-- what bytes do to a bus from a place in an input on
+abbrev pub run_bytes : Parts → Cut → List ℕ → Played
+run_bytes b c bytes = played (state_of b) c.count c.used (lines_of bytes)
 
--- what bytes do
-abbrev pub run_bytes : Parts → Place → List ℕ → Played
-run_bytes b p bytes = run_lines b p (lines_of bytes)
+-- ---- one line and its text
 
--- a place within the limits, with so many bytes behind it
-pub record IsWithin (p : Place) (pending : ℕ) : Type 0 where
-  pub count : p.count ≤ most_lines
-  pub used : p.used + pending ≤ longest_input
+-- a line by its answer: where it was taken, its text was appended, and else none was
+abbrev pub Prints : Result Unit StepFault → Step → Parts → Parts → List ℕ → List ℕ → Type 0
+Prints (Ok done) defined old new text text' = TookLine defined new (Some text) (Some text')
+Prints (Err BadStep) defined old new text text' = (defined ≡ None) × (new ≡ old) × (text' ≡ text)
+Prints (Err (NoWrite count)) defined old new text text' = text' ≡ text
+Prints (Err NoRoom) defined old new text text' = text' ≡ text
 
--- a line was taken, or it stops the run
-abbrev pub TakesLine : Result Unit Stop → RawLine → Parts → Place → List ℕ → Parts → Place → List ℕ → Type 0
-TakesLine (Ok u) raw b p text b' p' text' =
-    IsSound b' × IsWithin p' 0 × (p'.used ≡ p.used + raw.size) × SameRun text (λ ls. run_lines b p (raw ∷ ls)) text' (run_lines b' p')
-TakesLine (Err stop) raw b p text b' p' text' = Stops stop text text' b' (λ ls. before text (run_lines b p (raw ∷ ls)))
+-- the line of this number, likewise
+abbrev pub TakesLine : Result Unit Stop → ℕ → Step → Parts → Parts → List ℕ → List ℕ → Type 0
+TakesLine (Ok done) number defined old new text text' = TookLine defined new (Some text) (Some text')
+TakesLine (Err (BadLine n)) number defined old new text text' = (n ≡ number) × (defined ≡ None) × (new ≡ old) × (text' ≡ text)
+TakesLine (Err (TooLong n)) number defined old new text text' = ⊥
+TakesLine (Err WriteFault) number defined old new text text' = ⊥
+TakesLine (Err NoMemory) number defined old new text text' = text' ≡ text
 
--- a session between two pieces: the bus is sound, and what has come of the next line has no LF
+-- ---- sessions
+
+-- a session between two pieces: the bus is sound, and what has come of the next line has no LF and is within the input's limit
 pub record IsSession (s : Session) : Type 0 where
   pub sound : IsSound s.bus
-  pub part : IsPart s.pending.items
-  pub within : IsWithin s.place (length s.pending.items)
+  pub part : IsPart s.lines.come
+  pub within : s.lines.used + length s.lines.come ≤ longest_input
+
+-- the first line of a piece was taken, whose end is in it; this is the rest
+pub record TakesNext (s : Session) (piece : List ℕ) (s' : Session) (rest text text' : List ℕ) : Type 0 where
+  pub end : List ℕ
+  pub parts : piece ≡ end ++ 10 ∷ rest
+  pub session : IsSession s'
+  pub none : s'.lines.come ≡ []
+  pub used : s'.lines.used ≡ s.lines.used + length (s.lines.come ++ end) + 1
+  pub same : SameRun text (λ more. run_bytes s.bus s.lines ((s.lines.come ++ end) ++ 10 ∷ more)) text' (run_bytes s'.bus s'.lines)
+
+-- a piece that ends no line was held
+pub record HoldsPiece (s : Session) (piece : List ℕ) (s' : Session) : Type 0 where
+  pub session : IsSession s'
+  pub bus : s'.bus ≡ s.bus
+  pub held : Holds s.lines piece s'.lines
 
 -- of what had come, whole lines were taken, and the rest has come of the next line, or is to be taken still
 pub record TookSome (come rest : List ℕ) (s : Session) (text : List ℕ) (s' : Session) (text' : List ℕ) : Type 0 where
   pub whole : List ℕ
-  pub parts : come ≡ whole ++ (s'.pending.items ++ rest)
+  pub parts : come ≡ whole ++ (s'.lines.come ++ rest)
   pub lines : IsWhole whole
   pub session : IsSession s'
-  pub size : s'.place.used + length s'.pending.items + length rest ≡ s.place.used + length come
-  pub same : SameRun text (λ more. run_bytes s.bus s.place (whole ++ more)) text' (run_bytes s'.bus s'.place)
+  pub size : s'.lines.used + length s'.lines.come + length rest ≡ s.lines.used + length come
+  pub same : SameRun text (λ more. run_bytes s.bus s.lines (whole ++ more)) text' (run_bytes s'.bus s'.lines)
 
 -- of what had come, whole lines were taken, which lead to this state; this is the text before them and theirs
 pub record TookLines (come : List ℕ) (s : Session) (text text' : List ℕ) : Type 0 where
@@ -70,32 +96,14 @@ pub record TookLines (come : List ℕ) (s : Session) (text text' : List ℕ) : T
   pub state : State
   pub count : ℕ
   pub used : ℕ
-  pub same : SameRun text (λ more. run_bytes s.bus s.place (whole ++ more)) text' (λ more. played state count used (lines_of more))
-
--- whether a line of so many bytes is one too many or too long, or the input up to its end is
-abbrev pub is_long : Place → ℕ → ℕ → Bool
-is_long p line size = nat_le most_lines p.count || nat_lt longest_line line || nat_lt longest_input (p.used + size)
-
--- what has come of a line was kept, or it is too long already, whatever bus it comes to and however it goes on
-abbrev pub Holds : Result Unit Stop → Place → List ℕ → List ℕ → List ℕ → Type 0
-Holds (Ok u) p pending part pending' = (pending' ≡ pending ++ part) × (p.used + length pending' ≤ longest_input)
-Holds (Err (BadLine n)) p pending part pending' = ⊥
-Holds (Err WriteFault) p pending part pending' = ⊥
-Holds (Err (TooLong n)) p pending part pending' = (n ≡ p.count + 1) × (0 < length (pending ++ part)) × (is_long p (length (pending ++ part)) (length (pending ++ part)) ≡ true)
-Holds (Err NoMemory) p pending part pending' = pending' ≡ pending
-
--- a line whose text had come was taken, with its LF
-abbrev pub TakesEnd : Result Unit Stop → List ℕ → Session → List ℕ → Session → List ℕ → Type 0
-TakesEnd (Ok u) line s text s' text' =
-    IsSession s' × (s'.pending.items ≡ []) × (s'.place.used ≡ s.place.used + length line + 1) × SameRun text (λ rest. run_bytes s.bus s.place (line ++ 10 ∷ rest)) text' (run_bytes s'.bus s'.place)
-TakesEnd (Err stop) line s text s' text' = Stops stop text text' s'.bus (λ rest. before text (run_bytes s.bus s.place (line ++ 10 ∷ rest)))
+  pub same : SameRun text (λ more. run_bytes s.bus s.lines (whole ++ more)) text' (λ more. played state count used (lines_of more))
 
 -- how a run ends that stops in what had come, whatever follows it, in the state of this bus, which is sound; where the output
 -- failed its text begins so, and where memory ran out whole lines of it were taken
 abbrev pub StopsIn : Stop → List ℕ → Session → List ℕ → Parts → Type 0
-StopsIn (BadLine n) come s text b = IsSound b × ((rest : List ℕ) → run_bytes s.bus s.place (come ++ rest) ≡ record { text = text; ending = BadAt n; state = state_of b })
-StopsIn (TooLong n) come s text b = IsSound b × ((rest : List ℕ) → run_bytes s.bus s.place (come ++ rest) ≡ record { text = text; ending = TooLongAt n; state = state_of b })
-StopsIn WriteFault come s text b = (rest : List ℕ) → StartsWith (run_bytes s.bus s.place (come ++ rest)).text text
+StopsIn (BadLine n) come s text b = IsSound b × ((rest : List ℕ) → run_bytes s.bus s.lines (come ++ rest) ≡ record { text = text; ending = BadAt n; state = state_of b })
+StopsIn (TooLong n) come s text b = IsSound b × ((rest : List ℕ) → run_bytes s.bus s.lines (come ++ rest) ≡ record { text = text; ending = TooLongAt n; state = state_of b })
+StopsIn WriteFault come s text b = (rest : List ℕ) → StartsWith (run_bytes s.bus s.lines (come ++ rest)).text text
 StopsIn NoMemory come s text b = TookLines come s [] text
 
 -- a piece was taken, where so much had come by its end, or the run stops in it; this is what the lines in it print
@@ -112,28 +120,19 @@ pub record Feeds (result : Result Unit Stop) (come : List ℕ) (s s' : Session) 
 -- the last line was taken, where there is one, and the run is at its end, in the state of this bus, which is sound; or it stops
 -- the run
 abbrev pub Finishes : Result Unit Stop → Session → List ℕ → Parts → List ℕ → Type 0
-Finishes (Ok u) s text b text' = IsSound b × (before text (run_bytes s.bus s.place s.pending.items) ≡ before text' (ended Finished (state_of b)))
-Finishes (Err stop) s text b text' = Stops {X = Unit {0}} stop text text' b (λ u. before text (run_bytes s.bus s.place s.pending.items))
+Finishes (Ok u) s text b text' = IsSound b × (before text (run_bytes s.bus s.lines s.lines.come) ≡ before text' (ended Finished (state_of b)))
+Finishes (Err stop) s text b text' = Stops {X = Unit {0}} stop text text' b (λ u. before text (run_bytes s.bus s.lines s.lines.come))
 
 -- how far a script has come of which this much of the input is left and this much was written, from where they were:
 -- the whole lines that came, and the text that they printed
 pub record Reached (input left output written : Option (List ℕ)) (s : Session) : Type 0 where
   pub whole : List ℕ
   pub text : List ℕ
-  pub read : Consumes input left (whole ++ s.pending.items)
+  pub read : Consumes input left (whole ++ s.lines.come)
   pub lines : IsWhole whole
   pub wrote : Appends output written text
   pub session : IsSession s
-  pub same : (more : List ℕ) → before text (run_bytes s.bus s.place more) ≡ script (whole ++ more)
-
--- ---- one line and its text
-
--- a line by its answer: where it was taken, its text was appended, and else none was
-abbrev pub Prints : Result Unit StepFault → Step → Parts → Parts → List ℕ → List ℕ → Type 0
-Prints (Ok done) defined old new text text' = TookLine defined new (Some text) (Some text')
-Prints (Err BadStep) defined old new text text' = (defined ≡ None) × (new ≡ old) × (text' ≡ text)
-Prints (Err (NoWrite count)) defined old new text text' = text' ≡ text
-Prints (Err NoRoom) defined old new text text' = text' ≡ text
+  pub same : (more : List ℕ) → before text (run_bytes s.bus s.lines more) ≡ script (whole ++ more)
 
 -- ---- what is gathered
 

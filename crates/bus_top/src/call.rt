@@ -4,7 +4,8 @@ ghost use Rattle.bus_types.specs.Causes.{Rose};
 ghost use Rattle.history_core.specs.Run.Ending.{Finished, BadAt, TooLongAt};
 ghost use Rattle.bus_top.specs.Session.{IsSession, Reached};
 ghost use Rattle.bus_top.specs.Headline.{Headline};
-ghost use Rattle.bus_top.specs.Trace.{EndsAt, StopsReading, StopsWriting, StopsShort, HandsBack, IsTrace, Ended, Ends, Turned, kept_by, stop_status};
+ghost use Rattle.bus_top.specs.Trace.{EndsAt, StopsReading, StopsWriting, StopsShort, HandsBack, IsTrace};
+ghost use Rattle.bus_top.specs.Turns.{Ended, Ends, Turned, kept_by, stop_status};
 
 use crate::Bus;
 use crate::session::{Session, Stop};
@@ -136,7 +137,7 @@ fn turn<S: Source, W: Sink>(
     requires session { IsSession session.old }
     requires room { 0 < length piece.old }
     ensures turned { (first start : Option (List ℕ)) → Reached first (S.left input.old) start (W.written out.old) session.old → Turned result first (S.left input.new) start (W.written out.new) session.new }
-    ensures grows { IfNone result (IsSession session.new × (session.old.place.used + length session.old.pending.items < session.new.place.used + length session.new.pending.items)) }
+    ensures grows { IfNone result (IsSession session.new × (session.old.lines.used + length session.old.lines.come < session.new.lines.used + length session.new.lines.come)) }
     ensures later_input { S.faults input.old ≤ S.faults input.new }
     ensures later_output { W.faults out.old ≤ W.faults out.new }
     ensures read_fault { result ≡ Some Status.ReadFault → Rose (S.faults input.old) (S.faults input.new) }

@@ -1,35 +1,25 @@
-ghost use Rattle.std.specs.Prelude.{◌≡◌, ◌+◌, ◌≤◌, [], ◌∷◌, ◌++◌, length, IfOk, IfErr, IfSome, IfNone, OnOk, OnErr, IsErrOf};
+ghost use Rattle.std.specs.Prelude.{◌≡◌, ℕ, ◌≤◌, List, [], ◌++◌, IfOk, IfErr, IfSome, IfNone, OnOk, OnErr, IsErrOf};
 ghost use Rattle.bus_types.specs.Causes.{Rose, HasCause};
-ghost use Rattle.trace_script.specs.Input.{IsPart};
+ghost use Rattle.trace_script.specs.Cutting.{new_cut};
 ghost use Rattle.history_core.specs.Script.{start};
-ghost use Rattle.history_core.specs.Run.{line_step, text_step};
+ghost use Rattle.history_core.specs.Run.{before, line_step, text_step};
 ghost use Rattle.history_core.specs.Bus.{state_of, IsSound};
 ghost use Rattle.trace_script.specs.declared.line.Line.{Line};
-ghost use Rattle.bus_top.specs.Session.{IsSession, IsWithin, TakesLine, TakesEnd, Feeds, Finishes, Holds, Prints, Sends, SendsFront, is_long};
+ghost use Rattle.bus_top.specs.Session.{IsSession, Stops, TakesLine, TakesNext, HoldsPiece, Feeds, Finishes, Prints, Sends, SendsFront, cut_stop, run_bytes};
 
 use crate::Bus;
 use bus_io::{GrowingSink, Sink, write_all};
 use bus_types::NoMemory;
 use history_core::StepFault;
-use memchr::memchr;
 use std::alloc::Global;
 use std::mem;
-use trace_script::{Line, LineFault, read_line};
+use trace_script::{CutFault, Line, LineCutter, LineFault, read_line};
 
 /// The most bytes of windows that the relay keeps where no line says it.
 const USUAL_BYTES: u64 = 16_777_216;
 
 /// The most windows that the relay keeps where no line says it.
 const USUAL_WINDOWS: u32 = 4_096;
-
-/// The most lines of a script.
-const MOST_LINES: u64 = 1_000_000;
-
-/// The most bytes of a line, without its LF.
-const LONGEST_LINE: u64 = 4_194_304;
-
-/// The most bytes of an input.
-const LONGEST_INPUT: u64 = 16_777_216;
 
 /// The most bytes of text that are gathered before they are written.
 const MOST_GATHERED: usize = 65_536;
@@ -47,33 +37,34 @@ pub(crate) enum Stop {
     NoMemory,
 }
 
-/// How far a script has come: how many whole lines came, and how many bytes they took with their LFs.
-#[derive(Clone, Copy, Debug)]
-pub(crate) struct Place {
-    pub count: u64,
-    pub used: u64,
+impl From<CutFault> for Stop {
+    ghost from_gives = { λ fault stop. stop ≡ cut_stop fault };
+
+    fn from(fault: CutFault) -> Self {
+        match fault {
+            CutFault::TooLong(line) => Stop::TooLong(line),
+            CutFault::NoMemory => Stop::NoMemory,
+        }
+    }
 }
 
-/// A script as it comes in pieces: the bus, how far it has come, and what has come of the next line.
+/// A script as it comes in pieces: the bus, and the lines that are cut off what comes.
 #[derive(Debug, Drop)]
 pub(crate) struct Session {
     pub bus: Bus,
-    pub place: Place,
-    pub pending: Vec<u8>,
+    pub lines: LineCutter,
 }
 
 impl Session {
     /// A script of which nothing has come.
     pub fn new(alloc: Global) -> Result<Session, NoMemory>
         ensures state { IfOk result (λ session. state_of session.bus ≡ start) }
-        ensures place { IfOk result (λ session. session.place ≡ record { count = 0; used = 0 }) }
-        ensures pending { IfOk result (λ session. session.pending.items ≡ []) }
+        ensures lines { IfOk result (λ session. session.lines ≡ new_cut) }
         ensures session { IfOk result IsSession }
     {
         Ok(Session {
             bus: Bus::new(alloc, USUAL_BYTES, USUAL_WINDOWS)?,
-            place: Place { count: 0, used: 0 },
-            pending: Vec::new(alloc),
+            lines: LineCutter::new(alloc),
         })
     }
 
@@ -88,59 +79,40 @@ impl Session {
     ) -> Result<(), Stop>
         requires session { IsSession self.old }
         requires empty { text.old.items ≡ [] }
-        ensures feeds { Feeds result (self.old.pending.items ++ piece.now) self.old self.new (W.written out.old) (W.written out.new) text.new.items }
+        ensures feeds { Feeds result (self.old.lines.come ++ piece.now) self.old self.new (W.written out.old) (W.written out.new) text.new.items }
         ensures later { W.faults out.old ≤ W.faults out.new }
         ensures write_fault { IsErrOf result Stop.WriteFault → Rose (W.faults out.old) (W.faults out.new) }
     {
         let mut rest = piece;
-        while let Some((line, after)) = first_line(rest) {
-            self.take_line(alloc, line, text)?;
+        while let Some(after) = self.take_next(alloc, rest, text)? {
             relieve(text, out)?;
             rest = after;
         }
-        hold(&self.place, &mut self.pending, rest)
-    }
-
-    // Takes the line of which this is the end, before its LF.
-    fn take_line(&mut self, alloc: Global, end: &[u8], text: &mut Vec<u8>) -> Result<(), Stop>
-        requires session { IsSession self.old }
-        requires part { IsPart end.now }
-        ensures { TakesEnd result (self.old.pending.items ++ end.now) self.old text.old.items self.new text.new.items }
-    {
-        if self.pending.is_empty() {
-            self.take_whole(alloc, end, text)
-        } else {
-            self.take_joined(alloc, end, text)
-        }
-    }
-
-    // Takes a line that came in one piece.
-    fn take_whole(&mut self, alloc: Global, line: &[u8], text: &mut Vec<u8>) -> Result<(), Stop>
-        requires session { IsSession self.old }
-        requires empty { self.old.pending.items ≡ [] }
-        requires part { IsPart line.now }
-        ensures { TakesEnd result line.now self.old text.old.items self.new text.new.items }
-    {
-        step(&mut self.bus, &mut self.place, alloc, line, 1, text)
-    }
-
-    // Takes a line that came in several pieces, of which this is the last.
-    fn take_joined(&mut self, alloc: Global, end: &[u8], text: &mut Vec<u8>) -> Result<(), Stop>
-        requires session { IsSession self.old }
-        requires part { IsPart end.now }
-        ensures { TakesEnd result (self.old.pending.items ++ end.now) self.old text.old.items self.new text.new.items }
-    {
-        hold(&self.place, &mut self.pending, end)?;
-        step(
-            &mut self.bus,
-            &mut self.place,
-            alloc,
-            &self.pending,
-            1,
-            text,
-        )?;
-        self.pending.clear();
         Ok(())
+    }
+
+    // Takes the first line of a piece, and answers what stands behind it; or holds the piece, where it ends no line.
+    fn take_next<'a>(
+        &mut self,
+        alloc: Global,
+        piece: &'a [u8],
+        text: &mut Vec<u8>,
+    ) -> Result<Option<&'a [u8]>, Stop>
+        requires session { IsSession self.old }
+        ensures took { IfOk result (λ next. IfSome next (λ rest. TakesNext self.old piece.now self.new rest.now text.old.items text.new.items)) }
+        ensures held { IfOk result (λ next. IfNone next (HoldsPiece self.old piece.now self.new)) }
+        ensures printed { IfOk result (λ next. IfNone next (text.new.items ≡ text.old.items)) }
+        ensures stops { IfErr result (λ stop. Stops stop text.old.items text.new.items self.new.bus (λ (more : List ℕ). before text.old.items (run_bytes self.old.bus self.old.lines (self.old.lines.come ++ (piece.now ++ more))))) }
+    {
+        let Some((end, rest)) = self.lines.take(piece)? else {
+            // What is held is within the limits of an input.
+            let _within = self.lines.last();
+            return Ok(None);
+        };
+        let line = self.lines.line(end);
+        take_line(&mut self.bus, alloc, self.lines.number(), line, text)?;
+        self.lines.pass(end);
+        Ok(Some(rest))
     }
 
     /// Takes the last line, where it has come without its LF, and appends what it prints.
@@ -148,89 +120,29 @@ impl Session {
         requires { IsSession self.old }
         ensures { Finishes result self.old text.old.items self.new.bus text.new.items }
     {
-        if self.pending.is_empty() {
+        let Some(line) = self.lines.last() else {
             return Ok(());
-        }
-        step(
-            &mut self.bus,
-            &mut self.place,
-            alloc,
-            &self.pending,
-            0,
-            text,
-        )
+        };
+        take_line(&mut self.bus, alloc, self.lines.number(), line, text)
     }
 }
 
-// The bytes before the first LF, and those behind it.
-fn first_line(bytes: &[u8]) -> Option<(&[u8], &[u8])>
-    ensures some { IfSome result (λ found. IsPart found.0.now × (bytes.now ≡ found.0.now ++ 10 ∷ found.1.now)) }
-    ensures none { IfNone result (IsPart bytes.now) }
-{
-    let at = memchr(b'\n', bytes)?;
-    let (line, end) = bytes.split_at(at);
-    Some((line, &end[1..]))
-}
-
-// Keeps what has come of a line, as long as the line isn't too long already.
-fn hold(place: &Place, pending: &mut Vec<u8>, part: &[u8]) -> Result<(), Stop>
-    requires within { IsWithin place.now (length pending.old.items) }
-    ensures { Holds result place.now pending.old.items part.now pending.new.items }
-{
-    let size = pending.len() as u64 + part.len() as u64;
-    if size == 0 {
-        return Ok(());
-    }
-    if is_too_long(place, size, size) {
-        return Err(Stop::TooLong(place.count + 1));
-    }
-    match pending.extend_from_slice(part) {
-        Ok(()) => Ok(()),
-        Err(_) => Err(Stop::NoMemory),
-    }
-}
-
-// Whether a line of so many bytes is one too many or too long, or the input up to its end, with `size` bytes of it, is.
-fn is_too_long(place: &Place, line: u64, size: u64) -> bool
-    ensures { result ≡ is_long place.now line size }
-{
-    if place.count >= MOST_LINES {
-        return true;
-    }
-    if line > LONGEST_LINE {
-        return true;
-    }
-    place.used.saturating_add(size) > LONGEST_INPUT
-}
-
-// Takes a line with so many bytes behind its text, and appends what it prints.
-fn step(
+// Takes the line of this number, and appends what it prints.
+fn take_line(
     bus: &mut Bus,
-    place: &mut Place,
     alloc: Global,
+    number: u64,
     line: &[u8],
-    end: u64,
     text: &mut Vec<u8>,
 ) -> Result<(), Stop>
-    requires sound { IsSound bus.old }
-    requires within { IsWithin place.old 0 }
-    requires end { end ≤ 1 }
-    ensures { TakesLine result (record { text = line.now; size = length line.now + end }) bus.old place.old text.old.items bus.new place.new text.new.items }
+    requires { IsSound bus.old }
+    ensures { TakesLine result number (text_step (state_of bus.old) line.now) bus.old bus.new text.old.items text.new.items }
 {
-    let size = line.len() as u64 + end;
-    if is_too_long(place, line.len() as u64, size) {
-        return Err(Stop::TooLong(place.count + 1));
-    }
     match take(bus, alloc, line, text) {
-        Ok(()) => {
-            place.count += 1;
-            place.used += size;
-            Ok(())
-        }
-        Err(StepFault::BadLine) => Err(Stop::BadLine(place.count + 1)),
+        Ok(()) => Ok(()),
+        Err(StepFault::BadLine) => Err(Stop::BadLine(number)),
         // What is gathered grows in memory: it fails where there is none.
-        Err(StepFault::WriteFault { .. }) => Err(Stop::NoMemory),
-        Err(StepFault::NoMemory) => Err(Stop::NoMemory),
+        Err(StepFault::WriteFault { .. } | StepFault::NoMemory) => Err(Stop::NoMemory),
     }
 }
 

@@ -29,15 +29,19 @@ use Rattle.bus_wire.specs.Booted.{IsLimited, RepliesLawfully, IsLawfullyBooted}
 use Rattle.bus_wire.specs.Lawful.{answers, IsAskedFor, after_floor, most_chunk}
 use Rattle.bus_wire.specs.Wanted.{rows_wanted, changes_wanted}
 use Rattle.bus_wire.specs.True.{Boot, IsBoot, reply_of, replay_of, boot_reply}
+use Rattle.bus_wire.proofs.Reading.{come_spans}
 use Rattle.bus_wire.proofs.Replies.{place_bound, stretch_comes, stretch_is_asked_for, longest_is_run}
 use Rattle.bus_wire.proofs.Chunks.{scan_items, delta_items, front_asked, small_or}
 
 -- ---- answers
 
 lawful_answer : (ws : List Span) (high : ℕ) (ask : Ask) (answer : Answer) → IsAnswer answer → answers ask answer ≡ true → IsLawfullyBooted ws high ask (Only answer)
-lawful_answer ws high ask answer within lawful = inl (refl, record { within = within; lawful = lawful })
+lawful_answer ws high ask answer within lawful = inl (record { lawful = (refl, record { within = within; lawful = lawful }); formed = within })
 
 -- ---- chunks
+
+small_lawful : (ask : Ask) (max need most : ℕ) → IsAnswer (TooSmall need) → answers ask (TooSmall need) ≡ true → RepliesLawfully ask (Only (TooSmall need))
+small_lawful ask max need most within lawful = record { lawful = (refl, record { within = within; lawful = lawful }); formed = within }
 
 -- a table at 0 has no row
 above_0 : (test : Test) (ws : List Span) (cursor : Cursor) (n : ℕ) → 0 < length (puts_of (rest_of cursor (view test ws n))) → 0 < n
@@ -50,15 +54,12 @@ scan_chunk ws start cursor filter max applied t limited low bound =
     let w = rows_wanted start cursor filter in
     let all = puts_of (rest_of cursor (view (test_of filter) ws applied)) in
     let items = scan_items (test_of filter) ws applied cursor t in
-    small_or (RepliesLawfully (asks.Scan start cursor filter max)) (λ cs more. Rows cs applied more) max all
-    (λ need large most. (refl, record { within = record { number = omega (arith, most) }; lawful = and_from _ _ (lt-ltb max need large) (le-leb need most_chunk most) }))
+    let ask = asks.Scan start cursor filter max in
+    small_or (RepliesLawfully ask) (λ cs more. Rows cs applied more) max all
+    (λ need large most. small_lawful ask max need most_chunk (record { number = omega (arith, most) }) (and_from _ _ (lt-ltb max need large) (le-leb need most_chunk most)))
     (test_of filter) items.each
-    (λ run more front some. record {
-      changes = run;
-      spelled = refl;
-      asked = front_asked w applied max run all more bound limited (and_from _ _ (le-leb start applied low) (le-leb applied MAX_SCN bound)) (above_0 (test_of filter) ws cursor applied) items front some;
-      counted = refl;
-    })
+    (λ run more front some. let asked = front_asked w applied max run all more bound limited (and_from _ _ (le-leb start applied low) (le-leb applied MAX_SCN bound)) (above_0 (test_of filter) ws cursor applied) items front some in
+    record { lawful = record { changes = run; spelled = refl; asked = asked; counted = refl }; formed = asked.formed })
 
 delta_chunk : (ws : List Span) (since target : ℕ) (cursor : Cursor) (filter : Selection) (max : ℕ) → IsTimeline ws → max < 2 ^ 32 → since < target → target ≤ MAX_SCN
     → RepliesLawfully (asks.Delta since target cursor filter max) (chunk_of (λ cs more. Changes cs target more) max (changes_after cursor (last_changes ws (test_of filter) since target)))
@@ -66,15 +67,12 @@ delta_chunk ws since target cursor filter max t limited low bound =
     let w = changes_wanted target cursor filter in
     let all = changes_after cursor (last_changes ws (test_of filter) since target) in
     let items = delta_items (test_of filter) ws since target cursor t in
-    small_or (RepliesLawfully (asks.Delta since target cursor filter max)) (λ cs more. Changes cs target more) max all
-    (λ need large most. (refl, record { within = record { number = omega (arith, most) }; lawful = and_from _ _ (lt-ltb max need large) (le-leb need most_chunk most) }))
+    let ask = asks.Delta since target cursor filter max in
+    small_or (RepliesLawfully ask) (λ cs more. Changes cs target more) max all
+    (λ need large most. small_lawful ask max need most_chunk (record { number = omega (arith, most) }) (and_from _ _ (lt-ltb max need large) (le-leb need most_chunk most)))
     (test_of filter) items.each
-    (λ run more front some. record {
-      changes = run;
-      spelled = refl;
-      asked = front_asked w target max run all more bound limited (and_from _ _ (le-leb target target (omega arith)) (le-leb target target (omega arith))) (λ any. omega (arith, low)) items front some;
-      counted = refl;
-    })
+    (λ run more front some. let asked = front_asked w target max run all more bound limited (and_from _ _ (le-leb target target (omega arith)) (le-leb target target (omega arith))) (λ any. omega (arith, low)) items front some in
+    record { lawful = record { changes = run; spelled = refl; asked = asked; counted = refl }; formed = asked.formed })
 
 -- ---- replays
 
@@ -97,13 +95,11 @@ replay ws at target high max filter [] come each none = inr (none refl, refl)
 replay ws at target high max filter (w ∷ left) come each none =
     cond_both (nat_lt max (span_size w)) (TooLarge (span_size w)) (SomeWindows (longest_run most_windows max (w ∷ left))) (λ served. IsLawfullyBooted ws high (asks.Catchup at target filter max) (reply_of served))
     (λ large. lawful_answer ws high (asks.Catchup at target filter max) (TooSmall (span_size w)) (record { number = omega (arith, come.0.within.size) }) (and_from _ _ large (le-leb (span_size w) MAX_WINDOW come.0.within.size)))
-    (λ fits. inl (record {
-      windows = longest_run most_windows max (w ∷ left);
-      spelled = refl;
-      run = longest_is_run at target max filter w left come each (ltb-false max (span_size w) fits);
-      counted = refl;
-      ends = refl;
-    }))
+    (λ fits. (let run = longest_is_run at target max filter w left come each (ltb-false max (span_size w) fits) in
+    inl (record {
+      lawful = record { windows = longest_run most_windows max (w ∷ left); spelled = refl; run = run; counted = refl; ends = refl };
+      formed = come_spans (after_floor at) (longest_run most_windows max (w ∷ left)) run.asked.come;
+    })))
 
 no_cuts : (test : Test) (ws : List Span) → cuts test ws ≡ [] → ws ≡ []
 no_cuts test [] e = refl

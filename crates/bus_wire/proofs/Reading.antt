@@ -1,24 +1,27 @@
 -- A lawful reply of some shape is read as one.
-use Rattle.std.proofs.Common.{◌≡◌, ℕ, Bool, List, [], ◌∷◌, refl, sym, subst}
+use Rattle.std.proofs.Common.{◌≡◌, ℕ, Bool, List, [], ◌∷◌, map, refl, sym, ap, subst, ◌∙◌}
 use Rattle.std.specs.List.{AllByRecursion}
 use Rattle.bus_types.specs.declared.change.Change.{Change}
 use Rattle.bus_types.specs.Window.{Span, IsSpan}
 use Rattle.event_codec.specs.declared.reply.Shape.{Shape}
 use Rattle.event_codec.specs.declared.reply.Shape.TheVariants as shapes
 use Rattle.event_codec.specs.declared.reply.ReplyView.{ReplyView}
+use Rattle.event_codec.specs.declared.reply.ReplyView.TheVariants as views
+use Rattle.event_codec.specs.Bytes.{Event}
 use Rattle.event_codec.specs.Items.{Since}
 use Rattle.event_codec.specs.Parsing.{events_of}
 use Rattle.event_codec.specs.Streams.{Come, after_window, windows_bytes}
 use Rattle.event_codec.specs.Questions.{Reply}
 use Rattle.event_codec.specs.Questions.Reply.{Windows, Rows, Changes, Only}
 use Rattle.event_codec.specs.ReplyViews.{view_of, Spells}
+use Rattle.event_codec.proofs.Replying.{same_view}
 use Rattle.bus_wire.specs.declared.ask.Ask.{Ask}
 use Rattle.bus_wire.specs.Wanted.{Wanted, rows_wanted, changes_wanted, HoldsItems}
 use Rattle.bus_wire.specs.Lawful.{Body, body_of, HoldsWindows, HoldsRows, HoldsChanges, IsLawful}
 use Rattle.bus_wire.specs.Lawful.Body.{NoBody, WindowsOf, RowsOf, ChangesOf}
 use Rattle.bus_wire.specs.Replies.{AreReplied, AreItems, AreRows, AreChanges, IsReply}
 
-come_spans : (s : Since) (ws : List Span) → Come s ws → AllByRecursion IsSpan ws
+pub come_spans : (s : Since) (ws : List Span) → Come s ws → AllByRecursion IsSpan ws
 come_spans s [] come = tt
 come_spans s (w ∷ ws) come = (come.0.within, come_spans (after_window s w) ws come.1)
 
@@ -70,3 +73,24 @@ pub reply_read : (ask : Ask) (bytes : List ℕ) (shape : Shape) (view : ReplyVie
 reply_read ask bytes shape view lawful read =
     let x = lawful_read ask bytes shape lawful in
     subst (IsReply ask bytes) (sym (read x.0 x.1)) x.2
+
+-- bytes of a shape are one reply
+changes_again : (n : ℕ) (cs : List Change) → map (λ (e : Event). e.change) (events_of n cs) ≡ cs
+changes_again n [] = refl
+changes_again n (c ∷ cs) = ap (λ (x : List Change). c ∷ x) (changes_again n cs)
+
+-- the reply of a view
+abbrev reply_in : ReplyView → Reply
+reply_in (views.Windows ws) = Windows ws
+reply_in (views.Rows run scn more) = Rows (map (λ (e : Event). e.change) run) scn more
+reply_in (views.Changes run scn more) = Changes (map (λ (e : Event). e.change) run) scn more
+reply_in (views.Only answer) = Only answer
+
+reply_again : (r : Reply) → reply_in (view_of r) ≡ r
+reply_again (Windows ws) = refl
+reply_again (Rows cs scn more) = ap (λ (x : List Change). Rows x scn more) (changes_again scn cs)
+reply_again (Changes cs scn more) = ap (λ (x : List Change). Changes x scn more) (changes_again scn cs)
+reply_again (Only answer) = refl
+
+pub one_reply : (shape : Shape) (bytes : List ℕ) (one other : Reply) → Spells shape bytes one → Spells shape bytes other → one ≡ other
+one_reply shape bytes one other first second = sym (reply_again one) ∙ ap reply_in (same_view shape bytes one other first second) ∙ reply_again other

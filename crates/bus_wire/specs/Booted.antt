@@ -6,6 +6,7 @@ use Rattle.event_codec.specs.declared.answer.Answer.TheVariants.{Behind}
 use Rattle.event_codec.specs.Questions.{Reply}
 use Rattle.event_codec.specs.Questions.Reply.{Only}
 use Rattle.event_codec.specs.Forms.{bytes_of, shape_of}
+use Rattle.event_codec.specs.ReplyViews.{IsFormed}
 use Rattle.bus_wire.specs.declared.ask.Ask.{Ask}
 use Rattle.bus_wire.specs.declared.ask.Ask.TheVariants as asks
 use Rattle.bus_wire.specs.Lawful.{IsLawful}
@@ -19,9 +20,10 @@ IsLimited (asks.Target start atleast) = Unit {0}
 IsLimited (asks.Catchup at target filter max) = max < 2 ^ 32
 IsLimited (asks.Delta since target cursor filter max) = max < 2 ^ 32
 
--- the reply is a lawful one
-abbrev pub RepliesLawfully : Ask → Reply → Type 0
-RepliesLawfully ask reply = IsLawful ask (bytes_of reply) (shape_of reply)
+-- the reply is a lawful one, and its numbers are in their ranges
+pub record RepliesLawfully (ask : Ask) (reply : Reply) : Type 0 where
+  pub lawful : IsLawful ask (bytes_of reply) (shape_of reply)
+  pub formed : IsFormed reply
 
 -- a replay over no window of a timeline, to a target that the bootstrap has come to: it says how far it has come
 abbrev pub ReplaysNothing : List Span → ℕ → Ask → Reply → Type 0

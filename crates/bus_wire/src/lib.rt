@@ -15,6 +15,3 @@ pub use check::{check_reply, read_reply};
 pub use event_codec::{Answer, ReplyView, Shape, answer_bytes, close_bytes};
 pub use fault::BadReply;
 pub use laws::{a_bootstrap_answers_lawfully, a_relay_answers_lawfully, a_reply_has_one_shape};
-
-#[cfg(test)]
-mod tests;

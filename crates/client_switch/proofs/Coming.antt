@@ -1,54 +1,35 @@
 -- What a lawful reply to an ask of a client is to its mark.
-use Rattle.std.proofs.Common.{◌≡◌, ℕ, ◌<◌, ◌≤◌, Bool, true, false, List, [], ◌∷◌, length, true≢false, refl, sym, subst, arith}
-use Rattle.std.specs.Prelude.{IsTrue, flat_map}
+use Rattle.std.proofs.Common.{◌≡◌, ℕ, ◌<◌, ◌≤◌, max, Bool, true, false, ltb, leb, ◌&&◌, IsTrue, List, [], ◌∷◌, length, true≢false, refl, sym, ap, subst, ◌∙◌, arith}
 use Rattle.std.specs.List.{AllByRecursion}
-use Rattle.std.proofs.lemmas.Bool.{ltb-true}
+use Rattle.std.proofs.lemmas.Bool.{ltb-true, leb-true, and_parts}
+use Rattle.bus_types.specs.declared.change.Change.{Change}
 use Rattle.bus_types.specs.declared.limits.TheConstants.{MAX_SCN}
-use Rattle.bus_types.specs.Window.{Span, IsSpan}
+use Rattle.bus_types.specs.Window.{Span}
 use Rattle.bus_types.specs.Timeline.{end_from, end_of}
 use Rattle.partition_filter.specs.Selection.{Selection}
 use Rattle.event_codec.specs.declared.answer.Answer.{Answer}
 use Rattle.event_codec.specs.declared.answer.Answer.TheVariants.{NotFound, Empty, TooSmall, Behind, LogGone, StartDelta, StartSnapshot, Target}
 use Rattle.event_codec.specs.declared.reply.Shape.{Shape}
-use Rattle.event_codec.specs.declared.reply.Shape.TheVariants as shapes
 use Rattle.event_codec.specs.Items.{Since}
 use Rattle.event_codec.specs.Streams.{Come}
+use Rattle.event_codec.specs.Questions.{Question, Reply}
+use Rattle.event_codec.specs.Questions.Reply.{Windows, Rows, Changes, Only}
+use Rattle.event_codec.specs.Forms.{shape_of}
+use Rattle.event_codec.specs.ReplyViews.{view_of, IsRunOf, Spells}
 use Rattle.checkpoint.specs.declared.mark.Mark.{Mark}
 use Rattle.checkpoint.specs.declared.mark.Mark.TheVariants.{Online, Delta, Snapshot, Scanned, Catchup}
 use Rattle.checkpoint.specs.Mark.{floor_of}
 use Rattle.bus_wire.specs.declared.ask.Ask.{Ask}
-use Rattle.bus_wire.specs.declared.ask.Ask.TheVariants.{Stream as StreamAsk, Start as StartAsk}
-use Rattle.bus_wire.specs.Lawful.{IsLawful, IsAnswerTo, IsAskedFor, HoldsRun, after_floor, stream_answers, start_answers}
-use Rattle.dispatcher.specs.Callbacks.{Callback, Describes, window_calls, answer_calls}
-use Rattle.dispatcher.specs.Telling.{AreAll}
-use Rattle.event_codec.specs.Questions.{Reply}
+use Rattle.bus_wire.specs.Asks.{ask_of}
+use Rattle.bus_wire.specs.Lawful.{IsLawful, IsAnswerTo, IsAskedFor, HoldsRun, HoldsWindows, HoldsRows, HoldsChanges, body_of, after_floor}
+use Rattle.bus_wire.proofs.Reading.{lawful_read}
+use Rattle.dispatcher.specs.Callbacks.{Callback, reply_calls, Describes}
 use Rattle.client_switch.specs.Moves.{Wish, IsWished, question}
 use Rattle.client_switch.specs.Moves.Wish.{NoWish, StartWish, FreshWish}
-use Rattle.event_codec.specs.Questions.Reply.{Windows, Only}
-use Rattle.client_switch.specs.Client.{IsAskOf, IsReply, AreTheWindows}
-use Rattle.client_switch.specs.Turning.{CanAnswer, CanFollow, CanCome}
-
--- ---- asks
-
--- who is online asks for the windows after its SCN; who wishes to start asks from its floor
-pub data Asked (mark : Mark) (filter : Selection) (ask : Ask) : Type 0 where
-  ForWindows : (scn most : ℕ) → mark ≡ Online scn → ask ≡ StreamAsk scn filter most → Asked mark filter ask
-  ForStart : (since : ℕ) (fresh : Bool) → since ≡ floor_of mark → ask ≡ StartAsk since fresh → Asked mark filter ask
-
-pub asked : (mark : Mark) (wish : Wish) (filter : Selection) (most : ℕ) (ask : Ask) → IsAskOf filter (question mark wish most) ask → Asked mark filter ask
-asked (Online scn) NoWish filter most ask is = ForWindows scn most refl is
-asked (Delta since target cursor) NoWish filter most ask is = absurd is
-asked (Snapshot since start top cursor) NoWish filter most ask is = absurd is
-asked (Scanned since start top) NoWish filter most ask is = absurd is
-asked (Catchup since start target at) NoWish filter most ask is = absurd is
-asked mark StartWish filter most ask is = ForStart (floor_of mark) false refl is
-asked mark FreshWish filter most ask is = ForStart (floor_of mark) true refl is
+use Rattle.client_switch.specs.Client.{IsAskOf}
+use Rattle.client_switch.specs.Turning.{CanAnswer, Follow, CanFollow, CanHold, CanChange, CanCome, HoldsComing}
 
 -- ---- windows
-
-spans : (s : Since) (ws : List Span) → Come s ws → AllByRecursion IsSpan ws
-spans s [] come = tt
-spans s (w ∷ ws) come = (come.0.within, spans (record { floor = w.scn; started = true }) ws come.1)
 
 rises : (s : Since) (ws : List Span) → Come s ws → s.floor ≤ end_from s.floor ws
 rises s [] come = omega arith
@@ -62,91 +43,132 @@ ends_below : (top n : ℕ) (filter : Selection) (ws : List Span) → n ≤ top �
 ends_below top n filter [] low each = low
 ends_below top n filter (w ∷ ws) low each = ends_below top w.scn filter ws each.0.below each.1
 
-all_of : (floor top : ℕ) (filter : Selection) (bytes : List ℕ) (count last : ℕ) (h : HoldsRun floor top filter bytes count last) → AreAll h.windows bytes
-all_of floor top filter bytes count last h = record { within = spans (after_floor floor) h.windows h.run.asked.come; spelled = h.spelled }
-
-follow : (scn : ℕ) (filter : Selection) (bytes : List ℕ) (count last : ℕ) → HoldsRun scn MAX_SCN filter bytes count last → CanFollow (Online scn) count last bytes
-follow scn filter bytes count last h = record {
-  scn = scn;
-  online = refl;
+follow : (floor top : ℕ) (filter : Selection) (bytes : List ℕ) (ws : List Span) → HoldsRun floor top filter bytes (length ws) (end_of ws) → Follow floor top ws
+follow floor top filter bytes ws h = record {
   some = omega (arith, h.counted, h.run.some);
-  above = omega (arith, h.ends, ends_above (after_floor scn) h.windows h.run.asked.come h.run.some);
-  bound = omega (arith, h.ends, ends_below MAX_SCN 0 filter h.windows (omega arith) h.run.asked.each);
-  windows = (h.windows, all_of scn MAX_SCN filter bytes count last h);
+  above = omega (arith, h.ends, ends_above (after_floor floor) h.windows h.run.asked.come h.run.some);
+  bound = omega (arith, h.ends, ends_below top 0 filter h.windows (omega arith) h.run.asked.each);
 }
+
+windows_can : (mark : Mark) (wish : Wish) (filter : Selection) (most : ℕ) (bytes : List ℕ) (ws : List Span) → HoldsWindows (body_of (ask_of filter (question mark wish most))) bytes (length ws) (end_of ws) → CanFollow mark ws
+windows_can (Online scn) NoWish filter most bytes ws holds = follow scn MAX_SCN filter bytes ws holds
+windows_can (Delta since target cursor) NoWish filter most bytes ws holds = absurd holds
+windows_can (Snapshot since start top cursor) NoWish filter most bytes ws holds = absurd holds
+windows_can (Scanned since start top) NoWish filter most bytes ws holds = absurd holds
+windows_can (Catchup since start target at) NoWish filter most bytes ws holds = follow at target filter bytes ws holds
+windows_can mark StartWish filter most bytes ws holds = absurd holds
+windows_can mark FreshWish filter most bytes ws holds = absurd holds
+
+-- ---- rows and changes
+
+rows_can : (mark : Mark) (wish : Wish) (filter : Selection) (most : ℕ) (bytes : List ℕ) (cs : List Change) (scn : ℕ) (more : Bool) → IsRunOf scn cs
+    → HoldsRows (body_of (ask_of filter (question mark wish most))) bytes (length cs) scn more → CanHold mark cs scn
+rows_can (Online s) NoWish filter most bytes cs scn more is holds = absurd holds
+rows_can (Delta since target cursor) NoWish filter most bytes cs scn more is holds = absurd holds
+rows_can (Snapshot since start top cursor) NoWish filter most bytes cs scn more is holds = (is.within, is.bound)
+rows_can (Scanned since start top) NoWish filter most bytes cs scn more is holds = absurd holds
+rows_can (Catchup since start target at) NoWish filter most bytes cs scn more is holds = absurd holds
+rows_can mark StartWish filter most bytes cs scn more is holds = absurd holds
+rows_can mark FreshWish filter most bytes cs scn more is holds = absurd holds
+
+changes_can : (mark : Mark) (wish : Wish) (filter : Selection) (most : ℕ) (bytes : List ℕ) (cs : List Change) (scn : ℕ) (more : Bool) → IsRunOf scn cs
+    → HoldsChanges (body_of (ask_of filter (question mark wish most))) bytes (length cs) more → CanChange mark cs
+changes_can (Online s) NoWish filter most bytes cs scn more is holds = absurd holds
+changes_can (Delta since target cursor) NoWish filter most bytes cs scn more is holds = is.within
+changes_can (Snapshot since start top cursor) NoWish filter most bytes cs scn more is holds = absurd holds
+changes_can (Scanned since start top) NoWish filter most bytes cs scn more is holds = absurd holds
+changes_can (Catchup since start target at) NoWish filter most bytes cs scn more is holds = absurd holds
+changes_can mark StartWish filter most bytes cs scn more is holds = absurd holds
+changes_can mark FreshWish filter most bytes cs scn more is holds = absurd holds
 
 -- ---- answers
 
-stream_can : (mark : Mark) (scn most : ℕ) (answer : Answer) → mark ≡ Online scn → IsTrue (stream_answers scn most answer) → CanAnswer mark answer
-stream_can mark scn most (NotFound floor) online is = subst (λ (m : Mark). IsWished m StartWish) (sym online) tt
-stream_can mark scn most (Empty end) online is = tt
-stream_can mark scn most (TooSmall need) online is = tt
-stream_can mark scn most (Behind high) online is = tt
-stream_can mark scn most (LogGone base) online is = absurd (true≢false (sym is))
-stream_can mark scn most (StartDelta high) online is = absurd (true≢false (sym is))
-stream_can mark scn most (StartSnapshot applied) online is = absurd (true≢false (sym is))
-stream_can mark scn most (Target t) online is = absurd (true≢false (sym is))
+no : {A : Type 0} → IsTrue false → A
+no is = absurd (true≢false (sym is))
 
-delta_can : (mark : Mark) (since : ℕ) (fresh : Bool) (high : ℕ) → since ≡ floor_of mark → IsTrue (start_answers since fresh (StartDelta high)) → floor_of mark < high
-delta_can mark since true high same is = absurd (true≢false (sym is))
-delta_can mark since false high same is = let lt = ltb-true since high is in omega (arith, same, lt)
+stream_can : (scn most : ℕ) (filter : Selection) (answer : Answer) → IsAnswerTo (ask_of filter (Question.Stream scn most)) answer → CanAnswer (Online scn) answer
+stream_can scn most filter (NotFound floor) is = tt
+stream_can scn most filter (Empty end) is = tt
+stream_can scn most filter (TooSmall need) is = tt
+stream_can scn most filter (Behind high) is = tt
+stream_can scn most filter (LogGone base) is = tt
+stream_can scn most filter (StartDelta high) is = no is.lawful
+stream_can scn most filter (StartSnapshot applied) is = is.within.number
+stream_can scn most filter (Target t) is = no is.lawful
 
-start_can : (mark : Mark) (since : ℕ) (fresh : Bool) (answer : Answer) → since ≡ floor_of mark → IsAnswerTo (StartAsk since fresh) answer → CanAnswer mark answer
-start_can mark since fresh (NotFound floor) same is = absurd (true≢false (sym is.lawful))
-start_can mark since fresh (Empty end) same is = tt
-start_can mark since fresh (TooSmall need) same is = tt
-start_can mark since fresh (Behind high) same is = tt
-start_can mark since fresh (LogGone base) same is = absurd (true≢false (sym is.lawful))
-start_can mark since fresh (StartDelta high) same is = (delta_can mark since fresh high same is.lawful, is.within.number)
-start_can mark since fresh (StartSnapshot applied) same is = is.within.number
-start_can mark since fresh (Target t) same is = absurd (true≢false (sym is.lawful))
+-- what a log holds
+log_can : (mark : Mark) (filter : Selection) (q : Question) (answer : Answer) → ((floor : ℕ) → IsAnswerTo (ask_of filter q) (NotFound floor) → ⊥) → ((high : ℕ) → IsAnswerTo (ask_of filter q) (StartDelta high) → ⊥)
+    → ((t : ℕ) → IsAnswerTo (ask_of filter q) (Target t) → ⊥) → IsAnswerTo (ask_of filter q) answer → CanAnswer mark answer
+log_can mark filter q (NotFound floor) gone delta to is = absurd (gone floor is)
+log_can mark filter q (Empty end) gone delta to is = tt
+log_can mark filter q (TooSmall need) gone delta to is = tt
+log_can mark filter q (Behind high) gone delta to is = tt
+log_can mark filter q (LogGone base) gone delta to is = tt
+log_can mark filter q (StartDelta high) gone delta to is = absurd (delta high is)
+log_can mark filter q (StartSnapshot applied) gone delta to is = is.within.number
+log_can mark filter q (Target t) gone delta to is = absurd (to t is)
+
+target_can : (since start top : ℕ) (filter : Selection) (answer : Answer) → IsAnswerTo (ask_of filter (Question.Target start (max since top))) answer → CanAnswer (Scanned since start top) answer
+target_can since start top filter (NotFound floor) is = no is.lawful
+target_can since start top filter (Empty end) is = tt
+target_can since start top filter (TooSmall need) is = tt
+target_can since start top filter (Behind high) is = tt
+target_can since start top filter (LogGone base) is = tt
+target_can since start top filter (StartDelta high) is = no is.lawful
+target_can since start top filter (StartSnapshot applied) is = is.within.number
+target_can since start top filter (Target t) is =
+    let p = and_parts (leb (max since top) t) (leb start t) is.lawful in
+    (leb-true start t p.1, omega (arith, leb-true (max since top) t p.0), is.within.number)
+
+start_can : (mark : Mark) (fresh : Bool) (filter : Selection) (answer : Answer) → IsAnswerTo (ask_of filter (Question.Start (floor_of mark) fresh)) answer → CanAnswer mark answer
+start_can mark fresh filter (NotFound floor) is = no is.lawful
+start_can mark fresh filter (Empty end) is = tt
+start_can mark fresh filter (TooSmall need) is = tt
+start_can mark fresh filter (Behind high) is = tt
+start_can mark fresh filter (LogGone base) is = tt
+start_can mark false filter (StartDelta high) is = (ltb-true (floor_of mark) high is.lawful, is.within.number)
+start_can mark true filter (StartDelta high) is = no is.lawful
+start_can mark fresh filter (StartSnapshot applied) is = is.within.number
+start_can mark fresh filter (Target t) is = no is.lawful
+
+answer_can : (mark : Mark) (wish : Wish) (filter : Selection) (most : ℕ) (answer : Answer) → IsAnswerTo (ask_of filter (question mark wish most)) answer → CanAnswer mark answer
+answer_can (Online scn) NoWish filter most answer is = stream_can scn most filter answer is
+answer_can (Delta since target cursor) NoWish filter most answer is =
+    log_can (Delta since target cursor) filter (Question.Delta since target cursor most) answer (λ n w. no w.lawful) (λ n w. no w.lawful) (λ n w. no w.lawful) is
+answer_can (Snapshot since start top cursor) NoWish filter most answer is =
+    log_can (Snapshot since start top cursor) filter (Question.Scan start cursor most) answer (λ n w. no w.lawful) (λ n w. no w.lawful) (λ n w. no w.lawful) is
+answer_can (Scanned since start top) NoWish filter most answer is = target_can since start top filter answer is
+answer_can (Catchup since start target at) NoWish filter most answer is =
+    log_can (Catchup since start target at) filter (Question.Catchup at target most) answer (λ n w. no w.lawful) (λ n w. no w.lawful) (λ n w. no w.lawful) is
+answer_can mark StartWish filter most answer is = start_can mark false filter answer is
+answer_can mark FreshWish filter most answer is = start_can mark true filter answer is
 
 -- ---- replies
 
-stream_comes : (mark : Mark) (scn most : ℕ) (filter : Selection) (bytes : List ℕ) (shape : Shape) → mark ≡ Online scn → IsLawful (StreamAsk scn filter most) bytes shape → CanCome mark shape bytes
-stream_comes mark scn most filter bytes (shapes.Windows count last) online is = subst (λ (m : Mark). CanFollow m count last bytes) (sym online) (follow scn filter bytes count last is)
-stream_comes mark scn most filter bytes (shapes.Rows count n more) online is = absurd is
-stream_comes mark scn most filter bytes (shapes.Changes count more) online is = absurd is
-stream_comes mark scn most filter bytes (shapes.Only answer) online is = stream_can mark scn most answer online is.1.lawful
-
-start_comes : (mark : Mark) (since : ℕ) (fresh : Bool) (bytes : List ℕ) (shape : Shape) → since ≡ floor_of mark → IsLawful (StartAsk since fresh) bytes shape → CanCome mark shape bytes
-start_comes mark since fresh bytes (shapes.Windows count last) same is = absurd is
-start_comes mark since fresh bytes (shapes.Rows count n more) same is = absurd is
-start_comes mark since fresh bytes (shapes.Changes count more) same is = absurd is
-start_comes mark since fresh bytes (shapes.Only answer) same is = start_can mark since fresh answer same is.1
+reply_can : (mark : Mark) (wish : Wish) (filter : Selection) (most : ℕ) (bytes : List ℕ) (r : Reply) (shape : Shape) → Spells shape bytes r → IsLawful (ask_of filter (question mark wish most)) bytes (shape_of r) → CanCome mark r
+reply_can mark wish filter most bytes (Windows ws) shape is lawful = windows_can mark wish filter most bytes ws lawful
+reply_can mark wish filter most bytes (Rows cs scn more) shape is lawful = rows_can mark wish filter most bytes cs scn more is.formed lawful
+reply_can mark wish filter most bytes (Changes cs scn more) shape is lawful = changes_can mark wish filter most bytes cs scn more is.formed lawful
+reply_can mark wish filter most bytes (Only answer) shape is lawful = answer_can mark wish filter most answer lawful.1
 
 -- a lawful reply to what was asked can come
-pub can_come : (mark : Mark) (wish : Wish) (filter : Selection) (most : ℕ) (ask : Ask) (bytes : List ℕ) (shape : Shape) → IsAskOf filter (question mark wish most) ask → IsLawful ask bytes shape → CanCome mark shape bytes
-can_come mark wish filter most ask bytes shape is lawful =
-    elim (asked mark wish filter most ask is) [
-      | ForWindows scn max online same ↦ stream_comes mark scn max filter bytes shape online (subst (λ (a : Ask). IsLawful a bytes shape) same lawful)
-      | ForStart since fresh floor same ↦ start_comes mark since fresh bytes shape floor (subst (λ (a : Ask). IsLawful a bytes shape) same lawful)
-    ]
+pub can_come : (mark : Mark) (wish : Wish) (filter : Selection) (most : ℕ) (ask : Ask) (bytes : List ℕ) (shape : Shape) (r : Reply) → IsAskOf filter (question mark wish most) ask → IsLawful ask bytes shape → Spells shape bytes r
+    → CanCome mark r
+can_come mark wish filter most ask bytes shape r is lawful spells =
+    let right : IsLawful (ask_of filter (question mark wish most)) bytes shape = subst (λ (a : Ask). IsLawful a bytes shape) is lawful in
+    reply_can mark wish filter most bytes r shape spells (subst (λ (s : Shape). IsLawful (ask_of filter (question mark wish most)) bytes s) spells.shaped right)
 
 -- ---- what a lawful reply is
 
-run_described : (floor top : ℕ) (filter : Selection) (bytes : List ℕ) (count last : ℕ) → HoldsRun floor top filter bytes count last → (callbacks : List Callback) × Describes (shapes.Windows count last) bytes callbacks
-run_described floor top filter bytes count last h =
-    let all = all_of floor top filter bytes count last h in
-    (flat_map window_calls h.windows, record { windows = h.windows; within = all.within; spelled = all.spelled; count = h.counted; last = h.ends; told = refl })
-
-run_read : (floor top : ℕ) (filter : Selection) (bytes : List ℕ) (count last : ℕ) → HoldsRun floor top filter bytes count last → (r : Reply) × IsReply (shapes.Windows count last) bytes r
-run_read floor top filter bytes count last h =
-    let are : AreTheWindows count last bytes h.windows = record { all = all_of floor top filter bytes count last h; counted = h.counted; ends = h.ends } in
-    (Windows h.windows, (h.windows, are, refl))
-
 -- it has callbacks
 pub described : (ask : Ask) (bytes : List ℕ) (shape : Shape) → IsLawful ask bytes shape → (callbacks : List Callback) × Describes shape bytes callbacks
-described (StreamAsk scn filter most) bytes (shapes.Windows count last) is = run_described scn MAX_SCN filter bytes count last is
-described (StartAsk since fresh) bytes (shapes.Windows count last) is = absurd is
-described ask bytes (shapes.Rows count scn more) is = absurd is
-described ask bytes (shapes.Changes count more) is = absurd is
-described ask bytes (shapes.Only answer) is = (answer_calls answer, record { within = is.1.within; spelled = is.0; told = refl })
+described ask bytes shape is = let spelled = lawful_read ask bytes shape is in (reply_calls (view_of spelled.0), record { reply = spelled.0; spells = spelled.1; told = refl })
 
 -- it is a reply
-pub read : (ask : Ask) (bytes : List ℕ) (shape : Shape) → IsLawful ask bytes shape → (r : Reply) × IsReply shape bytes r
-read (StreamAsk scn filter most) bytes (shapes.Windows count last) is = run_read scn MAX_SCN filter bytes count last is
-read (StartAsk since fresh) bytes (shapes.Windows count last) is = absurd is
-read ask bytes (shapes.Rows count scn more) is = absurd is
-read ask bytes (shapes.Changes count more) is = absurd is
-read ask bytes (shapes.Only answer) is = (Only answer, refl)
+pub read : (ask : Ask) (bytes : List ℕ) (shape : Shape) → IsLawful ask bytes shape → (r : Reply) × Spells shape bytes r
+read ask bytes shape is = let spelled = lawful_read ask bytes shape is in (spelled.0, spelled.1)
+
+pub coming : (mark : Mark) (wish : Wish) (filter : Selection) (most : ℕ) (ask : Ask) (bytes : List ℕ) (shape : Shape) → IsAskOf filter (question mark wish most) ask → IsLawful ask bytes shape → HoldsComing mark shape bytes
+coming mark wish filter most ask bytes shape is lawful =
+    let spelled = read ask bytes shape lawful in
+    record { reply = spelled.0; spells = spelled.1; can = λ r spells. can_come mark wish filter most ask bytes shape r is lawful spells }

@@ -13,7 +13,7 @@ use Rattle.bus_types.specs.Rows.{is_after}
 use Rattle.bus_types.specs.Table.{RowList, rows_after, payload_at, later, last_change}
 use Rattle.bus_types.proofs.Names.{name_cmp_total, name_cmp_exact}
 use Rattle.bus_types.proofs.TableLaws.{payload_after, payload_at-after}
-use Rattle.client_switch.specs.Moves.{cursor_after}
+use Rattle.event_codec.specs.Chunks.{cursor_after}
 use Rattle.client_switch.proofs.Payloads.{last_change-append}
 
 less : (r : Ordering) → is_lt r ≡ true → r ≡ Less

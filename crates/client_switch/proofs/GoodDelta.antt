@@ -14,7 +14,7 @@ use Rattle.event_codec.specs.declared.answer.Answer.TheVariants.{Behind, LogGone
 use Rattle.checkpoint.specs.declared.mark.Mark.TheVariants.{Delta as Catching}
 use Rattle.checkpoint.specs.Mark.{IsMark}
 use Rattle.event_codec.specs.Questions.{Delta, Reply, Changes, Only}
-use Rattle.client_switch.specs.Moves.{cursor_after}
+use Rattle.event_codec.specs.Chunks.{cursor_after}
 use Rattle.client_switch.specs.Good.{Good}
 use Rattle.bus_types.specs.Latest.{last_changes, changes_after}
 use Rattle.event_codec.specs.Chunks.{chunk_of}

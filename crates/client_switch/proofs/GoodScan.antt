@@ -16,7 +16,8 @@ use Rattle.event_codec.specs.declared.answer.Answer.TheVariants.{Behind, LogGone
 use Rattle.checkpoint.specs.declared.mark.Mark.TheVariants.{Online, Snapshot, Scanned, Catchup}
 use Rattle.checkpoint.specs.Mark.{IsMark}
 use Rattle.event_codec.specs.Questions.{Scan, Target, Reply, Rows, Only}
-use Rattle.client_switch.specs.Moves.{cursor_after, changes_of}
+use Rattle.event_codec.specs.Chunks.{cursor_after}
+use Rattle.client_switch.specs.Moves.{changes_of}
 use Rattle.client_switch.specs.Good.{Good}
 use Rattle.event_codec.specs.Chunks.{puts_of, chunk_of}
 use Rattle.bus_wire.specs.True.{IsBootedBy}

@@ -41,9 +41,9 @@ pub keeps_taken : (result : Result Took TakeFault) (old new : Held) (ask : Ask) 
     → Takes result old new ask bytes kept keeps before after → Keeps kept old.mark → new.halted ≡ false → Keeps keeps new.mark
 keeps_taken (Ok took) old new ask bytes kept keeps before after most is asked takes stored runs =
     let r = takes.reply in
-    let can = can_come old.mark old.wish old.filter most ask bytes took.shape asked takes.lawful in
-    let law = lawful old.mark took.shape bytes r can takes.is is in
-    subst (Keeps keeps) (ap (λ (c : Held). c.mark) (sym takes.client)) (keeps_made (turn old.mark r).commits (turn old.mark r) old.mark kept keeps law (stays old.mark took.shape bytes r can takes.is) takes.made stored)
+    let can = can_come old.mark old.wish old.filter most ask bytes took.shape r asked takes.lawful takes.is in
+    let law = lawful old.mark r is can in
+    subst (Keeps keeps) (ap (λ (c : Held). c.mark) (sym takes.client)) (keeps_made (turn old.mark r).commits (turn old.mark r) old.mark kept keeps law (stays old.mark r can) takes.made stored)
 keeps_taken (Err Halted) old new ask bytes kept keeps before after most is asked takes stored runs =
     subst (λ (c : Held). Keeps keeps c.mark) (sym takes.client) (keeps_still kept keeps old.mark takes.keeper stored)
 keeps_taken (Err (BadReply place)) old new ask bytes kept keeps before after most is asked takes stored runs =
@@ -119,14 +119,14 @@ pub floor_taken : (result : Result Took TakeFault) (old new : Held) (ask : Ask) 
 floor_taken (Ok took) old new ask bytes kept keeps before after most is asked takes stored =
     let r = takes.reply in
     let t = turn old.mark r in
-    let can = can_come old.mark old.wish old.filter most ask bytes took.shape asked takes.lawful in
-    floor_made t.commits t old.mark kept keeps stored (lawful old.mark took.shape bytes r can takes.is is) (rises old.mark took.shape bytes r can takes.is) takes.made
+    let can = can_come old.mark old.wish old.filter most ask bytes took.shape r asked takes.lawful takes.is in
+    floor_made t.commits t old.mark kept keeps stored (lawful old.mark r is can) (rises old.mark r is can) takes.made
 floor_taken (Err Halted) old new ask bytes kept keeps before after most is asked takes stored = floor_still kept keeps takes.keeper.content
 floor_taken (Err (BadReply place)) old new ask bytes kept keeps before after most is asked takes stored = floor_still kept keeps takes.nothing.keeper.content
 floor_taken (Err (Refused scn)) old new ask bytes kept keeps before after most is asked takes stored = floor_still kept keeps takes.keeper.content
 floor_taken (Err StoreFault) old new ask bytes kept keeps before after most is asked takes stored =
     let r = takes.reply in
     let t = turn old.mark r in
-    let can = can_come old.mark old.wish old.filter most ask bytes takes.shape asked takes.lawful in
-    floor_unmade t.commits t old.mark kept keeps stored (lawful old.mark takes.shape bytes r can takes.is is) (rises old.mark takes.shape bytes r can takes.is) takes.unmade
+    let can = can_come old.mark old.wish old.filter most ask bytes takes.shape r asked takes.lawful takes.is in
+    floor_unmade t.commits t old.mark kept keeps stored (lawful old.mark r is can) (rises old.mark r is can) takes.unmade
 floor_taken (Err NoMemory) old new ask bytes kept keeps before after most is asked takes stored = floor_still kept keeps takes.keeper.content

@@ -71,7 +71,7 @@ module _ (ws : List Span) (test : Test) where
   module _ (old new : Held) (ask : Ask) (bytes : List ℕ) (kept keeps : KeeperState) (before after : Option (List Call)) (most : ℕ) (stands : CanStand old.mark old.wish) (asked : IsAskOf old.filter (asks old most) ask) (timeline : IsTimeline ws) (true_of : AreTrueOf ws test (asks old most) ask bytes) (good : HoldsGood ws test old.mark kept) where
     -- the turn of the reply leaves a lawful mark and good rows
     new_mark : (shape : Shape) (r : Reply) → IsLawful ask bytes shape → IsReply shape bytes r → IsMark (turn old.mark r).mark
-    new_mark shape r law is = lawful old.mark shape bytes r (can_come old.mark old.wish old.filter most ask bytes shape asked law) is stands.lawful
+    new_mark shape r law is = lawful old.mark r stands.lawful (can_come old.mark old.wish old.filter most ask bytes shape r asked law is)
 
     leaves_good : (shape : Shape) (r : Reply) → IsLawful ask bytes shape → IsReply shape bytes r → LeavesGood old.mark (turn old.mark r)
     leaves_good shape r law is rows right = (good_turn ws test old.mark old.wish most rows r timeline stands.lawful stands.wished right (true_of shape r law is)).good

@@ -18,4 +18,3 @@ pub mod Turns
 pub mod Settling
 pub mod Keeping
 pub mod KeepingGood
-pub mod Built

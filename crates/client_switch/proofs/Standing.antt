@@ -10,7 +10,8 @@ use Rattle.checkpoint.specs.declared.mark.Mark.{Mark}
 use Rattle.checkpoint.specs.declared.mark.Mark.TheVariants.{Online, Delta, Snapshot, Scanned, Catchup}
 use Rattle.checkpoint.specs.Mark.{IsMark, floor_of}
 use Rattle.event_codec.specs.Questions.{Reply, Windows, Rows, Changes, Only}
-use Rattle.client_switch.specs.Moves.{turn, cursor_after}
+use Rattle.event_codec.specs.Chunks.{cursor_after}
+use Rattle.client_switch.specs.Moves.{turn}
 use Rattle.client_switch.specs.Lawful.{asked_least, AreAbove, IsLawfulFor}
 
 -- windows above an SCN end above it, or there is none
@@ -27,7 +28,7 @@ after_windows (Catchup since start target at) ws m l =
     cond_both (end_from at ws == target) (Online target) (Catchup since start target (end_from at ws)) (λ mark. since ≤ floor_of mark)
     (λ _. m.2) (λ _. omega arith)
 
-after_rows : (mark : Mark) (cs : List Change) (scn : ℕ) (more : Bool) → floor_of mark ≤ floor_of (turn mark (Rows cs scn more)).mark
+pub after_rows : (mark : Mark) (cs : List Change) (scn : ℕ) (more : Bool) → floor_of mark ≤ floor_of (turn mark (Rows cs scn more)).mark
 after_rows (Online s) cs scn more = omega arith
 after_rows (Delta since target cursor) cs scn more = omega arith
 after_rows (Snapshot since start top cursor) cs scn more =
@@ -36,7 +37,7 @@ after_rows (Snapshot since start top cursor) cs scn more =
 after_rows (Scanned since start top) cs scn more = omega arith
 after_rows (Catchup since start target at) cs scn more = omega arith
 
-after_changes : (mark : Mark) (cs : List Change) (scn : ℕ) (more : Bool) → IsMark mark → floor_of mark ≤ floor_of (turn mark (Changes cs scn more)).mark
+pub after_changes : (mark : Mark) (cs : List Change) (scn : ℕ) (more : Bool) → IsMark mark → floor_of mark ≤ floor_of (turn mark (Changes cs scn more)).mark
 after_changes (Online s) cs scn more m = omega arith
 after_changes (Delta since target cursor) cs scn more m =
     cond_both more (Delta since target (cursor_after cursor cs)) (Online target) (λ mark. since ≤ floor_of mark) (λ _. omega arith) (λ _. omega (arith, m.0))

@@ -3,28 +3,24 @@ use Rattle.std.specs.Prelude.{◌≡◌, ℕ, ◌≤◌, Bool, true, false, if�
 use Rattle.bus_types.specs.Causes.{Rose}
 use Rattle.bus_types.specs.Change.{Test}
 use Rattle.bus_types.specs.Window.{Span}
-use Rattle.bus_types.specs.Timeline.{end_of}
 use Rattle.event_codec.specs.declared.reply.Shape.{Shape}
-use Rattle.event_codec.specs.declared.reply.Shape.TheVariants.{Windows as WindowsShape, Rows as RowsShape, Changes as ChangesShape, Only as OnlyShape}
+use Rattle.event_codec.specs.ReplyViews.{Spells}
 use Rattle.partition_filter.specs.Selection.{Selection}
 use Rattle.checkpoint.specs.declared.mark.Mark.{Mark}
 use Rattle.checkpoint.specs.declared.mark.Mark.TheVariants.{Online}
 use Rattle.checkpoint.specs.Mark.{IsMark, mark_text, floor_of}
 use Rattle.bus_wire.specs.declared.ask.Ask.{Ask}
-use Rattle.bus_wire.specs.declared.ask.Ask.TheVariants.{Stream as StreamAsk, Start as StartAsk}
+use Rattle.bus_wire.specs.Asks.{ask_of}
 use Rattle.bus_wire.specs.Lawful.{IsLawful, IsFaultAt}
 use Rattle.bus_stores.specs.Keeper.{KeeperState, BothTold, Move, SameStore, Meets, Stopped, move_of}
 use Rattle.bus_stores.specs.Taking.{MayFail}
 use Rattle.dispatcher.specs.Callbacks.{Call, Callback, taken, with_calls, Describes, StopsAt}
 use Rattle.dispatcher.specs.Callbacks.Callback.{OnRollback, OnCheckpoint}
-use Rattle.dispatcher.specs.Telling.{AreAll}
 use Rattle.client_switch.specs.declared.client.Took.{Took}
 use Rattle.client_switch.specs.declared.fault.TakeFault.{TakeFault}
 use Rattle.client_switch.specs.declared.fault.TakeFault.TheVariants.{Halted, BadReply, Refused, StoreFault, NoMemory}
 use Rattle.event_codec.specs.Questions.{Question, Reply}
 use Rattle.client_switch.specs.Moves.{Wish, Turn, question, turn}
-use Rattle.event_codec.specs.Questions.Question.{Stream, Start, Scan, Target, Catchup, Delta}
-use Rattle.event_codec.specs.Questions.Reply.{Windows, Only}
 use Rattle.client_switch.specs.Good.{Good}
 use Rattle.bus_wire.specs.True.{IsTrueOf}
 
@@ -47,23 +43,9 @@ Keeps keeper mark = IfSome keeper.content (λ c. IsStored c.mark mark)
 
 -- ---- asks
 
--- the questions that asks are built for
-abbrev pub is_built : Question → Bool
-is_built (Stream scn most) = true
-is_built (Start since fresh) = true
-is_built (Scan start cursor most) = false
-is_built (Target start least) = false
-is_built (Catchup at target most) = false
-is_built (Delta since target cursor most) = false
-
 -- an ask is this question of who follows the rows of a filter
 abbrev pub IsAskOf : Selection → Question → Ask → Type 0
-IsAskOf filter (Stream scn most) ask = ask ≡ StreamAsk scn filter most
-IsAskOf filter (Start since fresh) ask = ask ≡ StartAsk since fresh
-IsAskOf filter (Scan start cursor most) ask = ⊥
-IsAskOf filter (Target start least) ask = ⊥
-IsAskOf filter (Catchup at target most) ask = ⊥
-IsAskOf filter (Delta since target cursor most) ask = ⊥
+IsAskOf filter q ask = ask ≡ ask_of filter q
 
 -- what the client asks now, in at most so many bytes
 abbrev pub asks : Held → ℕ → Question
@@ -71,18 +53,9 @@ asks c most = question c.mark c.wish most
 
 -- ---- replies
 
--- the bytes are these windows, so many and up to the SCN last
-pub record AreTheWindows (count last : ℕ) (bytes : List ℕ) (ws : List Span) : Type 0 where
-  pub all : AreAll ws bytes
-  pub counted : count ≡ length ws
-  pub ends : last ≡ end_of ws
-
 -- the bytes of a reply of this shape are this reply
 abbrev pub IsReply : Shape → List ℕ → Reply → Type 0
-IsReply (WindowsShape count last) bytes reply = (ws : List Span) × AreTheWindows count last bytes ws × (reply ≡ Windows ws)
-IsReply (OnlyShape answer) bytes reply = reply ≡ Only answer
-IsReply (RowsShape count scn more) bytes reply = ⊥
-IsReply (ChangesShape count more) bytes reply = ⊥
+IsReply shape bytes reply = Spells shape bytes reply
 
 -- ---- what is committed
 

@@ -5,3 +5,4 @@ pub mod Worked
 pub mod Client
 pub mod Opening
 pub mod Turning
+pub mod Batch

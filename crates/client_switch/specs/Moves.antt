@@ -2,12 +2,13 @@
 use Rattle.std.specs.Prelude.{ℕ, max, Bool, true, false, if◌then◌else◌, ◌==◌, List, [], ◌∷◌, flat_map}
 use Rattle.bus_types.specs.declared.change.Change.{Change}
 use Rattle.bus_types.specs.declared.row.Cursor.{Cursor}
-use Rattle.bus_types.specs.declared.row.Cursor.TheVariants.{Start as Beginning, After}
+use Rattle.bus_types.specs.declared.row.Cursor.TheVariants.{Start as Beginning}
 use Rattle.bus_types.specs.Window.{Span}
 use Rattle.bus_types.specs.Timeline.{end_from}
 use Rattle.bus_types.specs.Table.{RowList, rows_after}
 use Rattle.event_codec.specs.declared.answer.Answer.{Answer}
 use Rattle.event_codec.specs.declared.answer.Answer.TheVariants.{NotFound, Empty, TooSmall, Behind, LogGone, StartDelta, StartSnapshot, Target as GoTo}
+use Rattle.event_codec.specs.Chunks.{cursor_after}
 use Rattle.event_codec.specs.Questions.{Question, Reply}
 use Rattle.event_codec.specs.Questions.Question.{Stream, Start, Scan, Target, Catchup, Delta}
 use Rattle.event_codec.specs.Questions.Reply.{Windows, Rows, Changes, Only}
@@ -64,11 +65,6 @@ go mark clear batch = record { mark = mark; commits = true; clear = clear; batch
 
 abbrev pub changes_of : List Span → List Change
 changes_of ws = flat_map (λ w. w.changes) ws
-
--- the cursor after the last of these, or the one given
-abbrev pub cursor_after : Cursor → List Change → Cursor
-cursor_after cursor [] = cursor
-cursor_after cursor (c ∷ cs) = cursor_after (After c.source c.key) cs
 
 -- a replay that has come to an SCN: it ends at its target
 abbrev pub replayed : ℕ → ℕ → ℕ → ℕ → Mark

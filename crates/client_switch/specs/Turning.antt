@@ -1,21 +1,22 @@
 -- What the code makes of a reply, step by step.
-use Rattle.std.specs.Prelude.{◌≡◌, ℕ, ◌<◌, ◌≤◌, true, if◌then◌else◌, List, [], ◌∷◌, ◌++◌, Option, Some, None, Result, Ok, Err}
+use Rattle.std.specs.Prelude.{◌≡◌, ℕ, ◌<◌, ◌≤◌, max, Bool, true, if◌then◌else◌, List, [], ◌∷◌, length, Option, Some, None, Result, Ok, Err}
 use Rattle.bus_types.specs.declared.change.Change.{Change}
 use Rattle.bus_types.specs.declared.limits.TheConstants.{MAX_SCN}
 use Rattle.bus_types.specs.Causes.{Rose}
+use Rattle.bus_types.specs.Change.{AreChanges}
 use Rattle.bus_types.specs.Window.{Span}
+use Rattle.bus_types.specs.Timeline.{end_of}
 use Rattle.event_codec.specs.declared.answer.Answer.{Answer}
 use Rattle.event_codec.specs.declared.answer.Answer.TheVariants.{NotFound, Empty, TooSmall, Behind, LogGone, StartDelta, StartSnapshot, Target}
 use Rattle.event_codec.specs.declared.reply.Shape.{Shape}
 use Rattle.event_codec.specs.declared.reply.Shape.TheVariants as shapes
 use Rattle.checkpoint.specs.declared.mark.Mark.{Mark}
-use Rattle.checkpoint.specs.declared.mark.Mark.TheVariants.{Online}
+use Rattle.checkpoint.specs.declared.mark.Mark.TheVariants.{Online, Delta, Snapshot, Scanned, Catchup}
 use Rattle.checkpoint.specs.Mark.{IsMark, mark_text, floor_of}
 use Rattle.bus_stores.specs.Keeper.{KeeperState, SameStore}
 use Rattle.bus_stores.specs.Taking.{MayFail}
 use Rattle.dispatcher.specs.Callbacks.{Call, taken, with_calls}
 use Rattle.dispatcher.specs.Callbacks.Callback.{OnRollback, OnCheckpoint}
-use Rattle.dispatcher.specs.Telling.{AreAll, HaveWindows}
 use Rattle.client_switch.specs.declared.client.Took.{Took}
 use Rattle.client_switch.specs.declared.fault.TakeFault.{TakeFault}
 use Rattle.client_switch.specs.declared.fault.TakeFault.TheVariants.{Halted, BadReply, Refused, StoreFault, NoMemory}
@@ -23,7 +24,10 @@ use Rattle.client_switch.specs.declared.turn.Turn.{Turn as TurnMade}
 use Rattle.client_switch.specs.declared.wish.Wish.{Wish as Wanted}
 use Rattle.client_switch.specs.declared.wish.Wish.TheVariants as wishes
 use Rattle.event_codec.specs.Questions.{Reply}
-use Rattle.client_switch.specs.Moves.{Wish, IsWished, Turn, changes_of, turn}
+use Rattle.event_codec.specs.Questions.Reply.{Windows, Rows, Changes, Only}
+use Rattle.event_codec.specs.Chunks.{cursor_after}
+use Rattle.event_codec.specs.ReplyViews.{Spells}
+use Rattle.client_switch.specs.Moves.{Wish, IsWished, Turn, changes_of, replayed, turn}
 use Rattle.client_switch.specs.Moves.Wish.{NoWish, StartWish, FreshWish}
 use Rattle.client_switch.specs.Client.{Held, IsReply, Made, Unmade, commit_of, checkpoint_calls}
 
@@ -51,15 +55,15 @@ pub record CanStand (mark : Mark) (wish : Wish) : Type 0 where
   pub lawful : IsMark mark
   pub wished : IsWished mark wish
 
--- ---- changes
-
--- the changes so far and those of the windows that are left are those before and those of all
-pub record Goes (all : List Span) (before : List Change) (rest : List ℕ) (after : List Change) : Type 0 where
-  pub left : List Span
-  pub are : AreAll left rest
-  pub same : after ++ changes_of left ≡ before ++ changes_of all
-
 -- ---- replies that can come
+
+-- a target of a scan, not below what was asked
+abbrev pub CanEnd : Mark → ℕ → Type 0
+CanEnd (Online scn) t = ⊥
+CanEnd (Delta since target cursor) t = ⊥
+CanEnd (Snapshot since start top cursor) t = ⊥
+CanEnd (Scanned since start top) t = (start ≤ t) × (since ≤ t) × (t ≤ MAX_SCN)
+CanEnd (Catchup since start target at) t = ⊥
 
 -- a lawful answer to who stands at this mark
 abbrev pub CanAnswer : Mark → Answer → Type 0
@@ -67,26 +71,94 @@ CanAnswer mark (NotFound floor) = IsWished mark StartWish
 CanAnswer mark (Empty end) = Unit {0}
 CanAnswer mark (TooSmall need) = Unit {0}
 CanAnswer mark (Behind high) = Unit {0}
-CanAnswer mark (LogGone base) = ⊥
+CanAnswer mark (LogGone base) = Unit {0}
 CanAnswer mark (StartDelta high) = (floor_of mark < high) × (high ≤ MAX_SCN)
 CanAnswer mark (StartSnapshot applied) = applied ≤ MAX_SCN
-CanAnswer mark (Target t) = ⊥
+CanAnswer mark (Target t) = CanEnd mark t
 
--- windows that come to who is online, up to the SCN last
-pub record CanFollow (mark : Mark) (count last : ℕ) (bytes : List ℕ) : Type 0 where
-  pub scn : ℕ
-  pub online : mark ≡ Online scn
-  pub some : 0 < count
-  pub above : scn < last
-  pub bound : last ≤ MAX_SCN
-  pub windows : HaveWindows bytes
+-- windows that follow an SCN, up to a top
+pub record Follow (scn top : ℕ) (ws : List Span) : Type 0 where
+  pub some : 0 < length ws
+  pub above : scn < end_of ws
+  pub bound : end_of ws ≤ top
+
+-- windows come to who is online, and in a replay
+abbrev pub CanFollow : Mark → List Span → Type 0
+CanFollow (Online scn) ws = Follow scn MAX_SCN ws
+CanFollow (Delta since target cursor) ws = ⊥
+CanFollow (Snapshot since start top cursor) ws = ⊥
+CanFollow (Scanned since start top) ws = ⊥
+CanFollow (Catchup since start target at) ws = Follow at target ws
+
+-- rows come in a scan
+abbrev pub CanHold : Mark → List Change → ℕ → Type 0
+CanHold (Online s) cs scn = ⊥
+CanHold (Delta since target cursor) cs scn = ⊥
+CanHold (Snapshot since start top cursor) cs scn = AreChanges cs × (scn ≤ MAX_SCN)
+CanHold (Scanned since start top) cs scn = ⊥
+CanHold (Catchup since start target at) cs scn = ⊥
+
+-- changes come in a delta
+abbrev pub CanChange : Mark → List Change → Type 0
+CanChange (Online s) cs = ⊥
+CanChange (Delta since target cursor) cs = AreChanges cs
+CanChange (Snapshot since start top cursor) cs = ⊥
+CanChange (Scanned since start top) cs = ⊥
+CanChange (Catchup since start target at) cs = ⊥
 
 -- a lawful reply to who stands at this mark
-abbrev pub CanCome : Mark → Shape → List ℕ → Type 0
-CanCome mark (shapes.Windows count last) bytes = CanFollow mark count last bytes
-CanCome mark (shapes.Rows count scn more) bytes = ⊥
-CanCome mark (shapes.Changes count more) bytes = ⊥
-CanCome mark (shapes.Only answer) bytes = CanAnswer mark answer
+abbrev pub CanCome : Mark → Reply → Type 0
+CanCome mark (Windows ws) = CanFollow mark ws
+CanCome mark (Rows cs scn more) = CanHold mark cs scn
+CanCome mark (Changes cs scn more) = CanChange mark cs
+CanCome mark (Only answer) = CanAnswer mark answer
+
+-- the bytes of that shape are a reply, and one that can come
+pub record HoldsComing (mark : Mark) (shape : Shape) (bytes : List ℕ) : Type 0 where
+  pub reply : Reply
+  pub spells : Spells shape bytes reply
+  pub can : (r : Reply) → Spells shape bytes r → CanCome mark r
+
+-- ---- what it makes
+
+-- the changes of a reply
+abbrev pub items_of : Reply → List Change
+items_of (Windows ws) = changes_of ws
+items_of (Rows cs scn more) = cs
+items_of (Changes cs scn more) = cs
+items_of (Only answer) = []
+
+-- the mark behind windows up to an SCN
+abbrev pub mark_after_windows : Mark → ℕ → Mark
+mark_after_windows (Online scn) last = Online last
+mark_after_windows (Delta since target cursor) last = Delta since target cursor
+mark_after_windows (Snapshot since start top cursor) last = Snapshot since start top cursor
+mark_after_windows (Scanned since start top) last = Scanned since start top
+mark_after_windows (Catchup since start target at) last = replayed since start target last
+
+-- the mark behind rows at an SCN
+abbrev pub mark_after_rows : Mark → List Change → ℕ → Bool → Mark
+mark_after_rows (Online s) cs scn more = Online s
+mark_after_rows (Delta since target cursor) cs scn more = Delta since target cursor
+mark_after_rows (Snapshot since start top cursor) cs scn more =
+    if more then Snapshot since start (max top scn) (cursor_after cursor cs) else Scanned since start (max top scn)
+mark_after_rows (Scanned since start top) cs scn more = Scanned since start top
+mark_after_rows (Catchup since start target at) cs scn more = Catchup since start target at
+
+-- the mark behind changes
+abbrev pub mark_after_changes : Mark → List Change → Bool → Mark
+mark_after_changes (Online s) cs more = Online s
+mark_after_changes (Delta since target cursor) cs more = if more then Delta since target (cursor_after cursor cs) else Online target
+mark_after_changes (Snapshot since start top cursor) cs more = Snapshot since start top cursor
+mark_after_changes (Scanned since start top) cs more = Scanned since start top
+mark_after_changes (Catchup since start target at) cs more = Catchup since start target at
+
+-- the mark behind a reply of this shape with these changes
+abbrev pub mark_after : Mark → Shape → List Change → Mark
+mark_after mark (shapes.Windows count last) cs = mark_after_windows mark last
+mark_after mark (shapes.Rows count scn more) cs = mark_after_rows mark cs scn more
+mark_after mark (shapes.Changes count more) cs = mark_after_changes mark cs more
+mark_after mark (shapes.Only answer) cs = mark
 
 -- ---- behind the callbacks of a reply
 

@@ -1,51 +1,68 @@
-ghost use Rattle.std.specs.Prelude.{◌≡◌, ◌<◌, ◌≤◌, List, length, drop, IfOk};
-ghost use Rattle.bus_types.specs.Window.{Span};
-ghost use Rattle.dispatcher.specs.Telling.{AreAll, HaveWindows};
+ghost use Rattle.std.specs.Prelude.{◌≡◌, ◌++◌, map, IfOk};
+ghost use Rattle.event_codec.specs.Parsing.{without_events};
+ghost use Rattle.event_codec.specs.Questions.{Reply};
+ghost use Rattle.event_codec.specs.ReplyViews.{Spells};
 ghost use Rattle.client_switch.specs.Moves.{changes_of};
-ghost use Rattle.client_switch.specs.Turning.{Goes};
+ghost use Rattle.client_switch.specs.Batch.{first_changes};
+ghost use Rattle.client_switch.specs.Turning.{items_of};
 
 use bus_types::{Change, NoMemory};
-use event_codec::{EventView, MARK_SIZE};
+use event_codec::{ReplyView, Run, Shape, Windows};
 use std::alloc::Global;
 
-// What follows a mark.
-fn behind_mark(bytes: &[u8]) -> &[u8]
-    requires { 17 ≤ length bytes.now }
-    ensures { result.now ≡ drop 17 bytes.now }
-{
-    &bytes[MARK_SIZE..]
-}
-
-// Takes the item that windows begin with: the change of an event is appended, and a mark is passed over. What follows
-// is left.
-fn take_item<'a>(
+// Takes the events of the window in front: their changes are appended, and its mark is left.
+fn take_events(
     alloc: Global,
-    bytes: &'a [u8],
+    left: &mut Windows<'_>,
     changes: &mut Vec<Change>,
-) -> Result<&'a [u8], NoMemory>
-    requires windows { HaveWindows bytes.now }
-    requires some { 0 < length bytes.now }
-    ensures goes { IfOk result (λ rest. (windows : List Span) → AreAll windows bytes.now → Goes windows changes.old.items rest.now changes.new.items) }
-    ensures shorter { IfOk result (λ rest. length rest.now < length bytes.now) }
+) -> Result<(), NoMemory>
+    ensures taken { IfOk result (λ _. changes.new.items ≡ changes.old.items ++ first_changes left.old) }
+    ensures behind { IfOk result (λ _. left.new ≡ without_events left.old) }
 {
-    match EventView::at(bytes, 0) {
-        Some((event, next)) => {
-            changes.push(event.change(alloc)?)?;
-            Ok(&bytes[next..])
-        }
-        None => Ok(behind_mark(bytes)),
+    while let Some((event, _own)) = left.event() {
+        changes.push(event.change(alloc)?)?;
     }
+    Ok(())
 }
 
-/// The changes of windows, in order. Each payload is copied once.
-pub(crate) fn windows_changes(alloc: Global, bytes: &[u8]) -> Result<Vec<Change>, NoMemory>
-    requires { HaveWindows bytes.now }
-    ensures { IfOk result (λ changes. (windows : List Span) → AreAll windows bytes.now → changes.items ≡ changes_of windows) }
+// The changes of windows, in order.
+fn windows_changes(alloc: Global, windows: &Windows<'_>) -> Result<Vec<Change>, NoMemory>
+    ensures { IfOk result (λ changes. changes.items ≡ changes_of windows.now) }
 {
     let mut changes = Vec::new(alloc);
-    let mut rest = bytes;
-    while !rest.is_empty() {
-        rest = take_item(alloc, rest, &mut changes)?;
+    let mut left = windows.again();
+    while let Some(_scn) = left.scn() {
+        take_events(alloc, &mut left, &mut changes)?;
+        left.mark();
     }
     Ok(changes)
+}
+
+// The changes of rows or of changes, in order.
+fn run_changes(alloc: Global, run: &Run<'_>) -> Result<Vec<Change>, NoMemory>
+    ensures { IfOk result (λ changes. changes.items ≡ map (λ e. e.change) run.now) }
+{
+    let mut changes = Vec::new(alloc);
+    let mut left = run.again();
+    while let Some((event, _own)) = left.next() {
+        changes.push(event.change(alloc)?)?;
+    }
+    Ok(changes)
+}
+
+/// The changes of a reply of that shape, in order. Each payload is copied once.
+pub(crate) fn reply_changes(
+    alloc: Global,
+    shape: &Shape,
+    bytes: &[u8],
+) -> Result<Vec<Change>, NoMemory>
+    requires { (r : Reply) × Spells shape.now bytes.now r }
+    ensures { IfOk result (λ changes. (r : Reply) → Spells shape.now bytes.now r → changes.items ≡ items_of r) }
+{
+    match ReplyView::of(shape, bytes) {
+        ReplyView::Windows(windows) => windows_changes(alloc, &windows),
+        ReplyView::Rows { run, .. } => run_changes(alloc, &run),
+        ReplyView::Changes { run, .. } => run_changes(alloc, &run),
+        ReplyView::Only(_) => Ok(Vec::new(alloc)),
+    }
 }

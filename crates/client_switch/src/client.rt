@@ -10,8 +10,8 @@ ghost use Rattle.dispatcher.specs.Callbacks.{with_calls, taken};
 ghost use Rattle.dispatcher.specs.Callbacks.Callback.{OnRollback};
 ghost use Rattle.client_switch.specs.Moves.{next_question};
 ghost use Rattle.client_switch.specs.Moves.Wish.{NoWish};
-ghost use Rattle.client_switch.specs.Client.{IsStored, Keeps, is_built, IsAskOf, asks, Takes, CountsKept, HasRefusal, FloorKept, HoldsGood, AreTrueOf, KeepsGood};
-ghost use Rattle.client_switch.specs.Turning.{wish_of, CanStand, checkpoint_call, CanCome, Settles};
+ghost use Rattle.client_switch.specs.Client.{IsStored, Keeps, IsAskOf, asks, Takes, CountsKept, HasRefusal, FloorKept, HoldsGood, AreTrueOf, KeepsGood};
+ghost use Rattle.client_switch.specs.Turning.{wish_of, CanStand, checkpoint_call, HoldsComing, Settles};
 
 use crate::fault::{AskRefusal, ClientOpen, TakeFault};
 use crate::turn::{Turn, turn_of};
@@ -146,7 +146,6 @@ impl Client {
 
     /// What it asks next, for at most `max` bytes. `Halted` comes exactly after `take` answered `StoreFault`.
     pub fn ask(&self, alloc: Global, max: u32) -> Result<Ask, AskRefusal>
-        requires { is_built (asks self.now max) ≡ true }
         ensures ask { IfOk result (λ ask. IsAskOf self.now.filter (asks self.now max) ask) }
         ensures halted { IsErrOf result AskRefusal.Halted ↔ (self.now.halted ≡ true) }
     {
@@ -158,7 +157,6 @@ impl Client {
 
     // What its wish asks, or else its mark.
     fn question(&self, alloc: Global, max: u32) -> Result<Ask, NoMemory>
-        requires { is_built (asks self.now max) ≡ true }
         ensures { IfOk result (λ ask. IsAskOf self.now.filter (asks self.now max) ask) }
     {
         match self.wish {
@@ -170,21 +168,50 @@ impl Client {
 
     // What its mark asks.
     fn next_question(&self, alloc: Global, max: u32) -> Result<Ask, NoMemory>
-        requires { is_built (next_question self.now.mark max) ≡ true }
         ensures { IfOk result (λ ask. IsAskOf self.now.filter (next_question self.now.mark max) ask) }
     {
         match self.mark {
-            Mark::Online { scn } => self.stream(alloc, scn, max),
-            _ => unreachable!(),
+            Mark::Online { scn } => {
+                let filter = self.filter.copy(alloc)?;
+                Ok(Ask::Stream { scn, filter, max })
+            }
+            Mark::Delta {
+                since,
+                target,
+                cursor,
+            } => {
+                let filter = self.filter.copy(alloc)?;
+                Ok(Ask::Delta {
+                    since,
+                    target,
+                    cursor,
+                    filter,
+                    max,
+                })
+            }
+            Mark::Snapshot { start, cursor, .. } => {
+                let filter = self.filter.copy(alloc)?;
+                Ok(Ask::Scan {
+                    start,
+                    cursor,
+                    filter,
+                    max,
+                })
+            }
+            Mark::Scanned { since, start, top } => Ok(Ask::Target {
+                start,
+                atleast: since.max(top),
+            }),
+            Mark::Catchup { target, at, .. } => {
+                let filter = self.filter.copy(alloc)?;
+                Ok(Ask::Catchup {
+                    at,
+                    target,
+                    filter,
+                    max,
+                })
+            }
         }
-    }
-
-    // The windows after an SCN.
-    fn stream(&self, alloc: Global, scn: u64, max: u32) -> Result<Ask, NoMemory>
-        ensures { IfOk result (λ ask. ask ≡ Ask.Stream scn self.now.filter max) }
-    {
-        let filter = self.filter.copy(alloc)?;
-        Ok(Ask::Stream { scn, filter, max })
     }
 
     // Where to begin again.
@@ -249,7 +276,7 @@ impl Client {
         keeper: &mut K,
         consumer: &mut C,
     ) -> Result<Took, TakeFault>
-        requires { CanCome self.old.mark shape.now reply.now }
+        requires { HoldsComing self.old.mark shape.now reply.now }
         ensures settles { Settles result self.old self.new shape.now reply.now (K.state keeper.old) (K.state keeper.new) (C.calls consumer.old) (C.calls consumer.new) }
         ensures counts { CountsKept (K.state keeper.old) (K.state keeper.new) }
         ensures later { C.refusals consumer.old ≤ C.refusals consumer.new }

@@ -1,12 +1,13 @@
 ghost use Rattle.std.specs.Prelude.{◌≡◌, true, false, [], IfOk};
 ghost use Rattle.checkpoint.specs.Mark.{IsMark};
 ghost use Rattle.bus_stores.specs.Taking.{Takes};
+ghost use Rattle.event_codec.specs.Chunks.{cursor_after};
 ghost use Rattle.event_codec.specs.Questions.{Reply};
-ghost use Rattle.client_switch.specs.Moves.{answer_turn, turn, stay, go};
+ghost use Rattle.client_switch.specs.Moves.{answer_turn, target_turn, replayed, turn, stay, go};
 ghost use Rattle.client_switch.specs.Client.{IsReply, commit_of};
-ghost use Rattle.client_switch.specs.Turning.{wish_of, turn_in, text_of, CanStand, CanCome, CanAnswer};
+ghost use Rattle.client_switch.specs.Turning.{wish_of, turn_in, text_of, CanStand, HoldsComing, CanAnswer, mark_after_windows, mark_after_rows, mark_after_changes, mark_after};
 
-use crate::changes::windows_changes;
+use crate::changes::reply_changes;
 use crate::wish::Wish;
 use bus_stores::{Commit, Keeper, StoreFault, take};
 use bus_types::{Change, Cursor, MarkText, NoMemory};
@@ -76,6 +77,25 @@ fn snapshot(alloc: Global, since: u64, start: u64) -> Turn
     go(mark, true, Vec::new(alloc))
 }
 
+// What a target makes of a scan that is at its end: where nothing is to be replayed, the scan is a table.
+fn target(alloc: Global, mark: &Mark, target: u64) -> Turn
+    ensures { turn_in result ≡ target_turn mark.now target }
+{
+    let Mark::Scanned { since, start, .. } = *mark else {
+        return stay(alloc, mark, Wish::Nothing);
+    };
+    if target == start {
+        return go(Mark::Online { scn: target }, false, Vec::new(alloc));
+    }
+    let mark = Mark::Catchup {
+        since,
+        start,
+        target,
+        at: start,
+    };
+    go(mark, false, Vec::new(alloc))
+}
+
 // What an answer makes.
 fn answer_turn(alloc: Global, mark: &Mark, answer: &Answer) -> Turn
     requires mark { IsMark mark.now }
@@ -88,9 +108,120 @@ fn answer_turn(alloc: Global, mark: &Mark, answer: &Answer) -> Turn
         Answer::Empty(_) | Answer::TooSmall(_) | Answer::Behind(_) => {
             stay(alloc, mark, Wish::Nothing)
         }
+        Answer::LogGone(_) => stay(alloc, mark, Wish::Fresh),
         Answer::StartDelta(high) => delta(alloc, mark.floor_of(), high),
         Answer::StartSnapshot(applied) => snapshot(alloc, mark.floor_of(), applied),
-        Answer::LogGone(_) | Answer::Target(_) => unreachable!(),
+        Answer::Target(end) => target(alloc, mark, end),
+    }
+}
+
+// The cursor after a change.
+fn cursor_behind(change: &Change) -> Cursor
+    ensures { result ≡ Cursor.After change.now.source change.now.key }
+{
+    Cursor::After {
+        source: change.source,
+        key: change.key,
+    }
+}
+
+// The cursor after the last of these changes, or the one given.
+fn cursor_after(cursor: &Cursor, changes: &[Change]) -> Cursor
+    ensures { result ≡ cursor_after cursor.now changes.now }
+{
+    match changes.last() {
+        None => *cursor,
+        Some(change) => cursor_behind(change),
+    }
+}
+
+// The mark of a replay that has come to an SCN.
+fn replayed(since: u64, start: u64, target: u64, at: u64) -> Mark
+    ensures { result ≡ replayed since start target at }
+{
+    if at == target {
+        return Mark::Online { scn: target };
+    }
+    Mark::Catchup {
+        since,
+        start,
+        target,
+        at,
+    }
+}
+
+// The mark behind windows up to an SCN.
+fn mark_after_windows(mark: &Mark, last: u64) -> Mark
+    ensures { result ≡ mark_after_windows mark.now last }
+{
+    match *mark {
+        Mark::Online { .. } => Mark::Online { scn: last },
+        Mark::Catchup {
+            since,
+            start,
+            target,
+            ..
+        } => replayed(since, start, target, last),
+        _ => *mark,
+    }
+}
+
+// The mark behind rows at an SCN.
+fn mark_after_rows(mark: &Mark, changes: &[Change], scn: u64, more: bool) -> Mark
+    ensures { result ≡ mark_after_rows mark.now changes.now scn more }
+{
+    let Mark::Snapshot {
+        since,
+        start,
+        top,
+        cursor,
+    } = *mark
+    else {
+        return *mark;
+    };
+    let top = top.max(scn);
+    if !more {
+        return Mark::Scanned { since, start, top };
+    }
+    Mark::Snapshot {
+        since,
+        start,
+        top,
+        cursor: cursor_after(&cursor, changes),
+    }
+}
+
+// The mark behind changes.
+fn mark_after_changes(mark: &Mark, changes: &[Change], more: bool) -> Mark
+    ensures { result ≡ mark_after_changes mark.now changes.now more }
+{
+    let Mark::Delta {
+        since,
+        target,
+        cursor,
+    } = *mark
+    else {
+        return *mark;
+    };
+    if !more {
+        return Mark::Online { scn: target };
+    }
+    Mark::Delta {
+        since,
+        target,
+        cursor: cursor_after(&cursor, changes),
+    }
+}
+
+// The mark behind a reply with these changes.
+fn mark_after(mark: &Mark, shape: &Shape, changes: &[Change]) -> Mark
+    ensures { result ≡ mark_after mark.now shape.now changes.now }
+{
+    match *shape {
+        Shape::Windows { last, .. } => mark_after_windows(mark, last),
+        Shape::Rows { scn, more, .. } => mark_after_rows(mark, changes, scn, more),
+        Shape::Changes { more, .. } => mark_after_changes(mark, changes, more),
+        Shape::Only(_) => *mark,
     }
 }
 
@@ -102,18 +233,16 @@ pub(crate) fn turn_of(
     reply: &[u8],
 ) -> Result<Turn, NoMemory>
     requires mark { IsMark mark.now }
-    requires can_come { CanCome mark.now shape.now reply.now }
+    requires can_come { HoldsComing mark.now shape.now reply.now }
     ensures turn { IfOk result (λ t. (r : Reply) → IsReply shape.now reply.now r → turn_in t ≡ turn mark.now r) }
     ensures stands { IfOk result (λ t. CanStand t.mark (wish_of t.wish)) }
 {
-    match *shape {
-        Shape::Windows { last, .. } => {
-            let changes = windows_changes(alloc, reply)?;
-            Ok(go(Mark::Online { scn: last }, false, changes))
-        }
-        Shape::Only(answer) => Ok(answer_turn(alloc, mark, &answer)),
-        Shape::Rows { .. } | Shape::Changes { .. } => unreachable!(),
+    if let Shape::Only(answer) = shape {
+        return Ok(answer_turn(alloc, mark, answer));
     }
+    let changes = reply_changes(alloc, shape, reply)?;
+    let next = mark_after(mark, shape, &changes);
+    Ok(go(next, false, changes))
 }
 
 impl Turn {

@@ -1,5 +1,2 @@
 pub mod Lists
-pub mod Standing
-pub mod Events
-pub mod Spans
-pub mod Examples
+pub mod Runs

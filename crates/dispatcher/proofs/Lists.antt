@@ -86,3 +86,26 @@ goes_back n callbacks behind x y z stops more = record {
 -- a refusal is handed on
 pub makes_err : {X : Type 0} (result : Result X Refused) (e : Refused) (callbacks : List Callback) (x z : Option (List Call)) → result ≡ Err e → StopsAt e.scn callbacks [] x z → Makes result callbacks x z
 makes_err {X} result e callbacks x z is stops = subst (λ (r : Result X Refused). Makes r callbacks x z) (sym is) stops
+
+-- ---- loops
+
+-- whatever is called of what is left completes all
+abbrev pub Completes : List Callback → List Callback → Option (List Call) → Option (List Call) → Type 0
+Completes all left before now = (r : Result Unit Refused) (after : Option (List Call)) → Makes r left now after → Makes r all before after
+
+pub completes_all : (all left : List Callback) (before : Option (List Call)) → left ≡ all → Completes all left before before
+completes_all all left before same = λ r after made. subst (λ (l : List Callback). Makes r l before after) same made
+
+-- some of what is left was taken
+pub completes_more : (all whole one left : List Callback) (before now next : Option (List Call)) → whole ≡ one ++ left → Completes all whole before now → next ≡ with_calls (map taken one) now → Completes all left before next
+completes_more all whole one left before now next parts so_far made =
+    λ r after rest. so_far r after (subst (λ (l : List Callback). Makes r l now after) (sym parts) (makes_both r one left now next after made rest))
+
+-- some of it was refused
+pub completes_stop : (e : Refused) (all whole one left : List Callback) (before now after : Option (List Call)) → whole ≡ one ++ left → Completes all whole before now → StopsAt e.scn one [] now after → StopsAt e.scn all [] before after
+completes_stop e all whole one left before now after parts so_far stops =
+    so_far (Err e) after (subst (λ (l : List Callback). StopsAt e.scn l [] now after) (sym parts) (stops_there e.scn one left [] now after stops))
+
+-- nothing is left
+pub completes_end : (all whole : List Callback) (before now : Option (List Call)) → whole ≡ [] → Completes all whole before now → now ≡ with_calls (map taken all) before
+completes_end all whole before now none so_far = so_far (Ok tt) now (subst (λ (l : List Callback). now ≡ with_calls (map taken l) now) (sym none) (made_none now))

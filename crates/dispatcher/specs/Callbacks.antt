@@ -1,19 +1,15 @@
 -- What a consumer is told of a reply, in what order, and which calls were made.
-use Rattle.std.specs.Prelude.{◌≡◌, ℕ, ◌<◌, ◌≤◌, Bool, true, false, List, [], ◌∷◌, ◌++◌, length, map, flat_map, Option, option_map, Result, Ok, Err}
-use Rattle.std.specs.List.{AllByRecursion}
-use Rattle.bus_types.specs.declared.change.Change.{Change}
-use Rattle.bus_types.specs.declared.limits.TheConstants.{MAX_SCN}
-use Rattle.bus_types.specs.Change.{AreChanges}
-use Rattle.bus_types.specs.Window.{Span, IsSpan}
-use Rattle.bus_types.specs.Timeline.{end_of}
+use Rattle.std.specs.Prelude.{◌≡◌, ℕ, Bool, true, false, List, [], ◌∷◌, ◌++◌, map, flat_map, Option, option_map, Result, Ok, Err}
+use Rattle.bus_types.specs.Window.{Span}
 use Rattle.event_codec.specs.declared.answer.Answer.{Answer}
 use Rattle.event_codec.specs.declared.answer.Answer.TheVariants.{NotFound, Empty, TooSmall, Behind, LogGone, StartDelta, StartSnapshot, Target}
 use Rattle.event_codec.specs.declared.reply.Shape.{Shape}
-use Rattle.event_codec.specs.declared.reply.Shape.TheVariants as shapes
-use Rattle.event_codec.specs.Bytes.{Event, changes_bytes}
-use Rattle.event_codec.specs.Streams.{windows_bytes}
-use Rattle.event_codec.specs.Frames.{Run, closing_bytes, IsAnswer, answer_bytes}
-use Rattle.event_codec.specs.Frames.Run.{Rows, Changes}
+use Rattle.event_codec.specs.declared.reply.ReplyView.{ReplyView}
+use Rattle.event_codec.specs.declared.reply.ReplyView.TheVariants as views
+use Rattle.event_codec.specs.Bytes.{Event}
+use Rattle.event_codec.specs.Parsing.{window_events}
+use Rattle.event_codec.specs.Questions.{Reply}
+use Rattle.event_codec.specs.ReplyViews.{view_of, Spells}
 use Rattle.dispatcher.specs.declared.consumer.Refused.{Refused}
 
 -- a callback and what it tells: an SCN, for an event the event too, and for a checkpoint its text alone
@@ -51,12 +47,12 @@ with_calls more calls = option_map (λ all. all ++ more) calls
 
 -- ---- the callbacks of a reply
 
--- a run of changes at one SCN: its start, an event for each change in order, its end
-abbrev pub run_calls : ℕ → List Change → List Callback
-run_calls scn changes = OnStart scn ∷ map (λ c. OnEvent scn (record { scn = scn; change = c })) changes ++ OnEnd scn ∷ []
+-- a run of events at one SCN: its start, each event in order, its end
+abbrev pub run_calls : ℕ → List Event → List Callback
+run_calls scn events = OnStart scn ∷ map (OnEvent scn) events ++ OnEnd scn ∷ []
 
 abbrev pub window_calls : Span → List Callback
-window_calls w = run_calls w.scn w.changes
+window_calls w = run_calls w.scn (window_events w)
 
 -- a snapshot begins on an empty store; no other answer is told
 abbrev pub answer_calls : Answer → List Callback
@@ -69,37 +65,18 @@ answer_calls (TooSmall size) = []
 answer_calls (Behind scn) = []
 answer_calls (LogGone scn) = []
 
--- that many whole windows, in full or as a filter left them; the SCN of the last one is end
-pub record AreWindows (number end : ℕ) (bytes : List ℕ) (callbacks : List Callback) : Type 0 where
-  pub windows : List Span
-  pub within : AllByRecursion IsSpan windows
-  pub spelled : bytes ≡ windows_bytes windows
-  pub count : number ≡ length windows
-  pub last : end ≡ end_of windows
-  pub told : callbacks ≡ flat_map window_calls windows
+-- a reply: each window, rows or changes once, or an answer
+abbrev pub reply_calls : ReplyView → List Callback
+reply_calls (views.Windows ws) = flat_map window_calls ws
+reply_calls (views.Rows run scn more) = run_calls scn run
+reply_calls (views.Changes run scn more) = run_calls scn run
+reply_calls (views.Only answer) = answer_calls answer
 
--- a run of that many rows or changes at one SCN, and the frame that ends it
-pub record IsRun (run : Run) (number scn : ℕ) (more : Bool) (bytes : List ℕ) (callbacks : List Callback) : Type 0 where
-  pub changes : List Change
-  pub within : AreChanges changes
-  pub positive : 0 < length changes → 0 < scn
-  pub bound : scn ≤ MAX_SCN
-  pub spelled : bytes ≡ changes_bytes scn changes ++ closing_bytes (record { run = run; scn = scn; more = more })
-  pub count : number ≡ length changes
-  pub told : callbacks ≡ run_calls scn changes
-
--- an answer alone
-pub record IsOnly (answer : Answer) (bytes : List ℕ) (callbacks : List Callback) : Type 0 where
-  pub within : IsAnswer answer
-  pub spelled : bytes ≡ answer_bytes answer
-  pub told : callbacks ≡ answer_calls answer
-
--- the bytes are a reply of that shape, whose callbacks are these. The SCN of changes stands in the bytes only
-abbrev pub Describes : Shape → List ℕ → List Callback → Type 0
-Describes (shapes.Windows count last) bytes callbacks = AreWindows count last bytes callbacks
-Describes (shapes.Rows count scn more) bytes callbacks = IsRun Rows count scn more bytes callbacks
-Describes (shapes.Changes count more) bytes callbacks = (scn : ℕ) × IsRun Changes count scn more bytes callbacks
-Describes (shapes.Only answer) bytes callbacks = IsOnly answer bytes callbacks
+-- the bytes spell a reply of that shape, whose callbacks are these. The SCN of changes stands in the bytes only
+pub record Describes (shape : Shape) (bytes : List ℕ) (callbacks : List Callback) : Type 0 where
+  pub reply : Reply
+  pub spells : Spells shape bytes reply
+  pub told : callbacks ≡ reply_calls (view_of reply)
 
 -- ---- the calls that were made
 

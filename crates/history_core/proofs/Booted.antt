@@ -25,7 +25,7 @@ place_within n ws t place =
     omega arith
 
 -- and one of the longer timeline
-place_stays : (n : ℕ) (ws : List Span) (w : Span) → is_place n ws ≡ true → is_place n (ws ++ w ∷ []) ≡ true
+pub place_stays : (n : ℕ) (ws : List Span) (w : Span) → is_place n ws ≡ true → is_place n (ws ++ w ∷ []) ≡ true
 place_stays n ws w place =
     let parts = parted_at 0 n ws place in
     let whole : parts.front ++ (parts.back ++ w ∷ []) ≡ ws ++ w ∷ [] = sym (append_assoc parts.front parts.back (w ∷ [])) ∙ ap (λ (vs : List Span). vs ++ w ∷ []) parts.whole in

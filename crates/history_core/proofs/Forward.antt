@@ -36,8 +36,9 @@ use Rattle.trace_script.specs.declared.line.Line.TheVariants.{Blank, Relay, Cons
 use Rattle.trace_script.specs.Lines.{line_of}
 use Rattle.trace_script.specs.Spelling.{is_in_range}
 use Rattle.trace_script.specs.Input.{RawLine, is_too_long}
-use Rattle.history_core.specs.Script.{Follower, State, floor, gap_line, reply_line, shown}
-use Rattle.history_core.specs.Steps.{Step, begin, place_of, at_name, at_name_if, with_consumer, booted, logged, replied, committed, turned, is_followed, after_reply, asked, looked_at, relay_step, consumer_step, commit_step, feed_step, log_step, apply_step, trim_step, restart_step, poll_step, crash_step, stop_step, show_step, stream_step}
+use Rattle.history_core.specs.Script.{Follower, State, floor, reply_text, shown}
+use Rattle.trace_script.specs.Printed.{gap_line}
+use Rattle.history_core.specs.Steps.{Step, begin, place_of, at_name, with_consumer, booted, logged, replied, committed, turned, asked, looked_at, relay_step, consumer_step, commit_step, feed_step, log_step, apply_step, trim_step, restart_step, poll_step, crash_step, stop_step, show_step, stream_step}
 use Rattle.history_core.specs.Run.{act, line_step, text_step, TooLongAt, Played, ended, play_on, played, IsForward, AreForward, GoOn}
 
 -- what holds of both values holds of the choice
@@ -244,11 +245,10 @@ turned_follows : (c : Follower) (t : Turn) (text : List ℕ) → IsForward c.mar
 turned_follows c t text h p =
     either (λ (a : Follower × List ℕ). Follows c a.0) t.commits (committed c.armed c t text) (record c { wish = t.wish }, text) (committed_follows c.armed c t text h p) (refl, refl, passes_same c.mark h)
 
-asked_follows : (s : State) (c : Follower) (most : ℕ) → IsForward c.mark → IfSome (asked s c most) (λ a. Follows c a.0)
+asked_follows : (s : State) (c : Follower) (most : ℕ) → IsForward c.mark → Follows c (asked s c most).0
 asked_follows s c most h =
     let reply : Reply = replied s.windows (floor s) s.end s.boot (test_of c.filter) (question c.mark c.wish most) in
-    either (λ (o : Option (Follower × List ℕ)). IfSome o (λ a. Follows c a.0)) (is_followed reply) (Some (after_reply c reply)) None
-    (turned_follows c (turn c.mark reply) (reply_line reply) h (turn_passes s.windows (floor s) s.end s.boot (test_of c.filter) c.mark c.wish most h)) tt
+    turned_follows c (turn c.mark reply) (reply_text c.mark reply) h (turn_passes s.windows (floor s) s.end s.boot (test_of c.filter) c.mark c.wish most h)
 
 looked_follows : (mark : Mark) (c : Follower) → IsForward c.mark → Follows c (looked_at mark c)
 looked_follows (Online scn) c h = (refl, refl, passes_same c.mark h)
@@ -288,22 +288,6 @@ leads_named s name step h f = found (place_of name s.consumers)
     found None = leads_none s
     found (Some i) = done i (slice_get s.consumers i) refl
 
--- what a line does that names a consumer which may refuse it
-leads_named_if : (s : State) (name : List ℕ) (act : Follower → Option (Follower × List ℕ)) → AreForward s.consumers → ((c : Follower) → IsForward c.mark → IfSome (act c) (λ a. Follows c a.0)) → Leads s (at_name_if s name act)
-leads_named_if s name act h f = found (place_of name s.consumers)
-  where
-    acted : (i : ℕ) (c : Follower) (o : Option (Follower × List ℕ)) → slice_get s.consumers i ≡ Some c → IfSome o (λ a. Follows c a.0) → Leads s (option_map (λ (a : Follower × List ℕ). (with_consumer s i a.0, a.1)) o)
-    acted i c None at next = leads_none s
-    acted i c (Some a) at next = leads_some s (with_consumer s i a.0) a.1 (go_on_set s.consumers i c a.0 at next.0 next.1 next.2.0, forward_set s.consumers i a.0 h next.2.1)
-
-    done : (i : ℕ) (o : Option Follower) → slice_get s.consumers i ≡ o → Leads s (option_and_then (λ (c : Follower). option_map (λ (a : Follower × List ℕ). (with_consumer s i a.0, a.1)) (act c)) o)
-    done i None at = leads_none s
-    done i (Some c) at = acted i c (act c) at (f c (forward_at s.consumers i c at h))
-
-    found : (o : Option ℕ) → Leads s (option_and_then (λ i. option_and_then (λ (c : Follower). option_map (λ (a : Follower × List ℕ). (with_consumer s i a.0, a.1)) (act c)) (slice_get s.consumers i)) o)
-    found None = leads_none s
-    found (Some i) = done i (slice_get s.consumers i) refl
-
 leads_act : (s : State) (line : Line) → AreForward s.consumers → Leads s (act s line)
 unfolding relay_step consumer_step commit_step feed_step log_step apply_step trim_step restart_step poll_step crash_step stop_step show_step stream_step
 leads_act s Blank h = leads_some s s [] (go_on_same s.consumers, h)
@@ -317,7 +301,7 @@ leads_act s (Log count) h =
 leads_act s (Apply count) h = leads_begin s (apply_step s count) (leads_some s _ _ (go_on_same s.consumers, h))
 leads_act s (Trim scn) h = leads_begin s (trim_step s scn) (leads_some s _ _ (go_on_same s.consumers, h))
 leads_act s RestartBoot h = leads_begin s (restart_step s) (leads_some s _ _ (go_on_same s.consumers, h))
-leads_act s (Poll name most) h = leads_begin s (poll_step s name most) (leads_named_if s name (λ c. asked s c most) h (λ c f. asked_follows s c most f))
+leads_act s (Poll name most) h = leads_begin s (poll_step s name most) (leads_named s name (λ c. asked s c most) h (λ c f. asked_follows s c most f))
 leads_act s (Crash name) h = leads_begin s (crash_step s name) (leads_named s name (λ c. (record c { wish = NoWish }, [])) h (λ c f. (refl, refl, passes_same c.mark f)))
 leads_act s (StopLine name after) h = leads_begin s (stop_step s name (stop_at after)) (leads_named s name (λ c. (record c { armed = Some (stop_at after) }, [])) h (λ c f. (refl, refl, passes_same c.mark f)))
 leads_act s (Show name) h = leads_begin s (show_step s name) (leads_named s name (λ c. (looked_at c.mark c, shown s.windows c c.mark)) h (λ c f. looked_follows c.mark c f))

@@ -6,26 +6,18 @@ use Rattle.bus_stores.specs.Memory.{MemoryStore, new_store, last_mark}
 use Rattle.checkpoint.specs.declared.mark.Mark.{Mark}
 use Rattle.checkpoint.specs.declared.mark.Mark.TheVariants.{Online, Delta, Snapshot, Scanned, Catchup}
 use Rattle.checkpoint.proofs.ReadBack.{one_mark}
-use Rattle.client_switch.specs.Moves.{Wish}
+use Rattle.client_switch.specs.Moves.{Wish, IsWished}
 use Rattle.client_switch.specs.Moves.Wish.{NoWish}
 use Rattle.client_switch.specs.Client.{Held, IsStored}
 use Rattle.client_switch.proofs.Growing.{good_new}
 use Rattle.history_core.specs.Steps.{new_follower}
-use Rattle.history_core.specs.Bus.{MemberState, follower, IsReached, IsMember}
+use Rattle.history_core.specs.Bus.{MemberState, follower, IsHeaded, IsMember}
 use Rattle.history_core.specs.Acting.{WasRead, IsReopened, Becomes}
 
 -- a stored text is one mark
 pub one_stored : (text : Option (List ℕ)) (m n : Mark) → IsStored text m → IsStored text n → m ≡ n
 one_stored None m n p q = p ∙ sym q
 one_stored (Some t) m n p q = one_mark m n p.0 q.0 (sym p.1 ∙ q.1)
-
--- a mark that is reached is so without a wish
-pub reached_again : (mark : Mark) (wish : Wish) → IsReached mark wish → IsReached mark NoWish
-reached_again (Online scn) wish h = tt
-reached_again (Delta since target cursor) wish h = h
-reached_again (Snapshot since begins top cursor) wish h = h
-reached_again (Scanned since begins top) wish h = h
-reached_again (Catchup since begins target at) wish h = h
 
 -- a new consumer, whose client was opened over a new keeper
 pub new_member : (ws : List Span) (name : List ℕ) (filter : Selection) (client : Held) (before after : MemoryStore) → before ≡ new_store []
@@ -44,7 +36,8 @@ new_member ws name filter client before after fresh f w runs stored read =
         stored = subst (λ (marks : List (List ℕ)). IsStored (last_mark marks) client.mark) (sym none) mark;
         good = rw (mark, rows) (good_new ws (test_of client.filter));
         shown = omega arith;
-        reached = rw (mark, w) tt;
+        wished = subst (λ (x : Wish). IsWished client.mark x) (sym w) tt;
+        headed = subst (λ (m : Mark). IsHeaded ws m) (sym mark) tt;
       };
     }
 
@@ -65,6 +58,7 @@ opened_again ws old new opened h =
         stored = subst (λ (marks : List (List ℕ)). IsStored (last_mark marks) new.client.mark) (sym read.marks) opened.mark;
         good = rw (mark, opened.filter, read.rows) h.good;
         shown = omega arith;
-        reached = rw (mark, w) (reached_again old.client.mark old.client.wish h.reached);
+        wished = subst (λ (x : Wish). IsWished new.client.mark x) (sym w) tt;
+        headed = subst (λ (m : Mark). IsHeaded ws m) (sym mark) h.headed;
       };
     }

@@ -9,9 +9,10 @@ use Rattle.bus_types.specs.Change.{Test}
 use Rattle.bus_types.specs.Window.{Span}
 use Rattle.bus_types.specs.Timeline.{IsTimeline}
 use Rattle.bus_types.specs.Table.{RowList}
-use Rattle.bus_types.specs.Relay.{Relay}
+use Rattle.bus_types.specs.Relay.{Relay, StandsFor}
 use Rattle.partition_filter.specs.Selection.{Selection, test_of}
 use Rattle.event_codec.specs.declared.reply.Shape.{Shape}
+use Rattle.event_codec.specs.Forms.{shape_of}
 use Rattle.checkpoint.specs.declared.mark.Mark.{Mark}
 use Rattle.checkpoint.specs.Mark.{IsMark, mark_text}
 use Rattle.bus_wire.specs.declared.ask.Ask.{Ask}
@@ -24,22 +25,26 @@ use Rattle.client_switch.specs.declared.client.Took.{Took}
 use Rattle.client_switch.specs.declared.fault.TakeFault.{TakeFault}
 use Rattle.client_switch.specs.declared.fault.TakeFault.TheVariants.{Halted, BadReply, Refused, StoreFault, NoMemory}
 use Rattle.event_codec.specs.Questions.{Reply}
-use Rattle.client_switch.specs.Moves.{Wish, Turn, turn}
+use Rattle.client_switch.specs.Moves.{Wish, Turn, IsWished, turn}
 use Rattle.client_switch.specs.Moves.Wish.{NoWish}
 use Rattle.client_switch.specs.Good.{Good}
 use Rattle.client_switch.specs.Client.{Held, IsStored, Keeps, IsAskOf, asks, IsReply, move_of_turn, Made, Unmade, TakesIt, RefusesReply, Halts, Takes, CountsKept, OnRefused, HasRefusal, HoldsGood, KeepsGood, AreTrueOf}
 use Rattle.bus_wire.specs.True.{Boot, IsTrueOf}
 use Rattle.client_switch.specs.Turning.{CanCome}
 use Rattle.client_switch.proofs.Coming.{can_come}
+use Rattle.client_switch.proofs.GoodTurn.{good_turn}
 use Rattle.client_switch.proofs.Turns.{stays, lawful}
-use Rattle.history_core.specs.Script.{Follower, reply_line, stopped_line}
-use Rattle.history_core.specs.Steps.{committed, followed, after_reply}
-use Rattle.history_core.specs.Bus.{MemberState, follower, IsReached}
-use Rattle.history_core.specs.Acting.{IsReopened, shape_line}
-use Rattle.history_core.specs.Polling.{Comes, TookReply}
+use Rattle.trace_script.specs.Printed.{reply_line}
+use Rattle.history_core.specs.Script.{Follower, stage_of, reply_text, stopped_line}
+use Rattle.history_core.specs.Steps.{committed, after_reply}
+use Rattle.bus_stores.specs.MemoryLog.{MemoryWindows}
+use Rattle.bootstrap_core.specs.Boot.{BootParts}
+use Rattle.history_core.specs.Bus.{MemberState, follower, boot_numbers, IsBooted, IsHeaded, IsMember}
+use Rattle.history_core.specs.Acting.{IsReopened, Polls, replied_to}
+use Rattle.history_core.specs.Polling.{Comes}
 use Rattle.history_core.proofs.Booted.{none_listed}
-use Rattle.history_core.proofs.Members.{one_stored, reached_again}
-use Rattle.history_core.proofs.Replying.{printed, expected, followed_some, some_shape, only_reply, expected_followed, expected_is_true, expected_reached}
+use Rattle.history_core.proofs.Members.{one_stored}
+use Rattle.history_core.proofs.Replying.{printed, only_reply, expected_is_true, expected_goes, turn_headed}
 
 -- ---- keepers in memory
 
@@ -86,7 +91,7 @@ unmade_sound false t old new sound unmade = absurd unmade
 
 -- ---- marks
 
-stored_is_mark : (text : Option (List ℕ)) (mark : Mark) → IsStored text mark → IsMark mark
+pub stored_is_mark : (text : Option (List ℕ)) (mark : Mark) → IsStored text mark → IsMark mark
 stored_is_mark None mark is = subst IsMark (sym is) (omega arith)
 stored_is_mark (Some text) mark is = is.0
 
@@ -165,41 +170,42 @@ pub record Exchanged (old : MemberState) (ask : Ask) (bytes : List ℕ) (client 
 
 module _ (ws : List Span) (r : Relay) (boot : Boot) (most : ℕ) (old : MemberState) (ask : Ask) (bytes : List ℕ) (comes : Comes ws r boot most old ask bytes) where
   abbrev defined : Reply
-  defined = expected ws r boot old.client.filter (asks old.client most)
+  defined = replied_to ws r boot most old
 
   -- a lawful reply is the one that is defined
   only : (shape : Shape) (reply : Reply) → IsLawful ask bytes shape → IsReply shape bytes reply → reply ≡ defined
-  only shape reply law read =
-      only_reply ws r boot old.client.filter comes.stands comes.lawful most ask bytes comes.reply comes.answered shape reply law read old.client.mark old.client.wish comes.member.reached comes.asked
+  only shape reply law read = only_reply ask bytes defined shape reply comes.sent law read
 
   true_of : AreTrueOf ws (test_of old.client.filter) (asks old.client most) ask bytes
   true_of shape reply law read =
-      subst (IsTrueOf ws (test_of old.client.filter) (asks old.client most)) (sym (only shape reply law read))
-      (expected_is_true ws r boot old.client.filter comes.stands comes.lawful most old.client.mark old.client.wish comes.member.reached)
+      subst (IsTrueOf ws (test_of old.client.filter) (asks old.client most)) (sym (only shape reply law read)) (expected_is_true ws r boot old.client.filter comes.stands comes.lawful (asks old.client most))
 
-  reached : (reply : Reply) → reply ≡ defined → (let t = turn old.client.mark reply in IsReached t.mark t.wish)
-  reached reply same =
-      subst (λ (a : Reply). (let t = turn old.client.mark a in IsReached t.mark t.wish)) (sym same)
-      (expected_reached ws r boot old.client.filter comes.stands comes.lawful most ask bytes comes.reply comes.answered old.client.mark old.client.wish comes.member.reached comes.asked)
+  mark_is : IsMark old.client.mark
+  mark_is = stored_is_mark (last_mark old.store.marks) old.client.mark comes.member.stored
 
-  -- what a script says of it
-  turns_so : (next : Follower × List ℕ) → next ≡ after_reply (follower old) defined → followed (follower old) defined ≡ Some next
-  turns_so next is =
-      followed_some (follower old) defined (expected_followed ws r boot old.client.filter comes.stands comes.lawful most ask bytes comes.reply comes.answered old.client.mark old.client.wish comes.member.reached comes.asked)
-      ∙ ap Some (sym is)
+  -- the wish is one that comes up where the turn leads
+  wished : (shape : Shape) (reply : Reply) → IsLawful ask bytes shape → IsReply shape bytes reply → (let t = turn old.client.mark reply in IsWished t.mark t.wish)
+  wished shape reply law read =
+      (good_turn ws (test_of old.client.filter) old.client.mark old.client.wish most old.store.rows reply comes.stands.timeline mark_is comes.member.wished comes.member.good (true_of shape reply law read)).wished
 
-  comes_at : (shape : Shape) → IsLawful ask bytes shape → CanCome old.client.mark shape bytes
-  comes_at shape law = can_come old.client.mark old.client.wish old.client.filter most ask bytes shape comes.asked law
+  -- and a replay goes to a place
+  headed : (reply : Reply) → reply ≡ defined → IsHeaded ws (turn old.client.mark reply).mark
+  headed reply same =
+      subst (λ (a : Reply). IsHeaded ws (turn old.client.mark a).mark) (sym same)
+      (turn_headed ws old.client.mark defined comes.member.headed (expected_goes ws r boot old.client.filter comes.stands comes.lawful (asks old.client most)))
+
+  comes_at : (shape : Shape) (reply : Reply) → IsLawful ask bytes shape → IsReply shape bytes reply → CanCome old.client.mark reply
+  comes_at shape reply law read = can_come old.client.mark old.client.wish old.client.filter most ask bytes shape reply comes.asked law read
 
   turn_is_lawful : (shape : Shape) (reply : Reply) → IsLawful ask bytes shape → IsReply shape bytes reply → IsMark (turn old.client.mark reply).mark
-  turn_is_lawful shape reply law read = lawful old.client.mark shape bytes reply (comes_at shape law) read (stored_is_mark (last_mark old.store.marks) old.client.mark comes.member.stored)
+  turn_is_lawful shape reply law read = lawful old.client.mark reply mark_is (comes_at shape reply law read)
 
   module _ (client : Held) (store : MemoryStore) (after : Exchanged old ask bytes client store) where
     still_good : KeepsGood ws (test_of old.client.filter) (told_by store)
     still_good = after.good ws most comes.stands.timeline (comes.member.stored, comes.member.good) comes.asked true_of
 
     -- the reply was taken
-    taken : (took : Took) (text : List ℕ) → TakesIt took old.client client ask bytes (told_by old.store) (told_by store) None None → text ≡ shape_line took.shape (length bytes) → TookReply ws r boot most old (record old { client = client; store = store }) text
+    taken : (took : Took) (text : List ℕ) → TakesIt took old.client client ask bytes (told_by old.store) (told_by store) None None → text ≡ reply_line (stage_of old.client.mark) took.shape (length bytes) → Polls ws r boot most text old (record old { client = client; store = store })
     taken took text takes line =
         let reply = takes.reply in
         let t = turn old.client.mark reply in
@@ -210,10 +216,9 @@ module _ (ws : List Span) (r : Relay) (boot : Boot) (most : ℕ) (old : MemberSt
         let shown = comes.member.shown in
         let calls = after.counts.calls in
         record {
-          turn =
-              turns_so _
-              (took_turn t.commits t old client store text (reply_line reply) (stays old.client.mark took.shape bytes reply (comes_at took.shape takes.lawful) takes.is) comes.member.sound takes.made takes.client
-              (line ∙ printed took.shape bytes reply takes.is)
+          turn = sym (
+              took_turn t.commits t old client store text (reply_text old.client.mark reply) (stays old.client.mark reply (comes_at took.shape reply takes.lawful takes.is)) comes.member.sound takes.made takes.client
+              (line ∙ printed old.client.mark took.shape bytes reply takes.is)
               ∙ ap (after_reply (follower old)) same_reply);
           member = record {
             runs = runs;
@@ -221,7 +226,8 @@ module _ (ws : List Span) (r : Relay) (boot : Boot) (most : ℕ) (old : MemberSt
             stored = stored;
             good = subst (λ (f : Selection). Good ws (test_of f) client.mark store.rows) (sym filter) (good_at ws (test_of old.client.filter) store client.mark still_good stored);
             shown = omega arith;
-            reached = subst (λ (h : Held). IsReached h.mark h.wish) (sym takes.client) (reached reply same_reply);
+            wished = subst (λ (h : Held). IsWished h.mark h.wish) (sym takes.client) (wished took.shape reply takes.lawful takes.is);
+            headed = subst (λ (h : Held). IsHeaded ws h.mark) (sym takes.client) (headed reply same_reply);
           };
         }
 
@@ -234,7 +240,7 @@ module _ (ws : List Span) (r : Relay) (boot : Boot) (most : ℕ) (old : MemberSt
       stopped_stored = (still_good.0, still_good.1)
 
       -- and it was
-      stopped : (new : MemberState) (text : List ℕ) → IsReopened (record old { store = store }) new → IfSome old.store.armed (λ stop. text ≡ stopped_line stop) → TookReply ws r boot most old new text
+      stopped : (new : MemberState) (text : List ℕ) → IsReopened (record old { store = store }) new → IfSome old.store.armed (λ stop. text ≡ stopped_line stop) → Polls ws r boot most text old new
       stopped new text opened line =
           let reply = halts.reply in
           let t = turn old.client.mark reply in
@@ -243,12 +249,9 @@ module _ (ws : List Span) (r : Relay) (boot : Boot) (most : ℕ) (old : MemberSt
           let good = good_at ws (test_of old.client.filter) store new.client.mark still_good opened.mark in
           let shown = comes.member.shown in
           let calls = after.counts.calls in
-          let reached_before = reached_again old.client.mark old.client.wish comes.member.reached in
-          let reached_after = reached_again t.mark t.wish (reached reply same_reply) in
           record {
-            turn =
-                turns_so _
-                (stopped_turn t old store new text (reply_line reply) comes.member.sound opened line t.commits comes.member.stored mark halts.unmade
+            turn = sym (
+                stopped_turn t old store new text (reply_text old.client.mark reply) comes.member.sound opened line t.commits comes.member.stored mark halts.unmade
                 ∙ ap (after_reply (follower old)) same_reply);
             member = record {
               runs = opened.runs;
@@ -258,9 +261,8 @@ module _ (ws : List Span) (r : Relay) (boot : Boot) (most : ℕ) (old : MemberSt
                   subst (λ (f : Selection). Good ws (test_of f) new.client.mark new.store.rows) (sym opened.filter)
                   (subst (λ (rows : RowList). Good ws (test_of old.client.filter) new.client.mark rows) (sym opened.read.rows) good);
               shown = omega (arith, opened.shows, opened.read.later);
-              reached =
-                  subst (λ (w : Wish). IsReached new.client.mark w) (sym opened.wish)
-                  (stopped_mark t old store new text (reply_line reply) comes.member.sound opened line (λ m. IsReached m NoWish) t.commits comes.member.stored mark halts.unmade reached_before reached_after);
+              wished = subst (λ (w : Wish). IsWished new.client.mark w) (sym opened.wish) tt;
+              headed = stopped_mark t old store new text (reply_text old.client.mark reply) comes.member.sound opened line (IsHeaded ws) t.commits comes.member.stored mark halts.unmade comes.member.headed (headed reply same_reply);
             };
           }
 
@@ -272,8 +274,7 @@ pub no_fault : (ws : List Span) (r : Relay) (boot : Boot) (most : ℕ) (old : Me
 no_fault ws r boot most old ask bytes client store result Halted comes is halts takes refusals = true≢false (sym (halts.0 is) ∙ comes.member.runs)
 no_fault ws r boot most old ask bytes client store result (BadReply place) comes is halts takes refusals =
     let refused : RefusesReply place old.client client ask bytes (told_by old.store) (told_by store) None None = subst (λ (a : Result Took TakeFault). Takes a old.client client ask bytes (told_by old.store) (told_by store) None None) is takes in
-    let shape = some_shape ws r boot old.client.filter comes.stands comes.lawful most ask bytes comes.reply comes.answered old.client.mark old.client.wish comes.member.reached comes.asked in
-    refused.unlawful shape.0 shape.1
+    refused.unlawful (shape_of (replied_to ws r boot most old)) comes.sent.lawful
 no_fault ws r boot most old ask bytes client store result (Refused scn) comes is halts takes refusals =
     let rose : Rose 0 0 = subst (λ (a : Result Took TakeFault). OnRefused a (Rose 0 0)) is refusals.refused in
     absurd (omega (arith, rose))
@@ -282,10 +283,10 @@ no_fault ws r boot most old ask bytes client store result NoMemory comes is halt
 
 -- of whatever windows, relay and ask
 abbrev pub PollsAll : Result (Vec ℕ Global) OutOfMemory → MemberState → MemberState → Ask → List ℕ → Type 0
-PollsAll result old new ask bytes = IfOk result (λ text. (ws : List Span) (r : Relay) (boot : Boot) (most : ℕ) → Comes ws r boot most old ask bytes → TookReply ws r boot most old new text.items)
+PollsAll result old new ask bytes = IfOk result (λ text. (ws : List Span) (r : Relay) (boot : Boot) (most : ℕ) → Comes ws r boot most old ask bytes → Polls ws r boot most text.items old new)
 
 pub took_done : (old : MemberState) (ask : Ask) (bytes : List ℕ) (client : Held) (store : MemoryStore) (answer : Took) (result : Result (Vec ℕ Global) OutOfMemory) → Exchanged old ask bytes client store
-    → TakesIt answer old.client client ask bytes (told_by old.store) (told_by store) None None → IfOk result (λ text. text.items ≡ shape_line answer.shape (length bytes)) → PollsAll result old (record old { client = client; store = store }) ask bytes
+    → TakesIt answer old.client client ask bytes (told_by old.store) (told_by store) None None → IfOk result (λ text. text.items ≡ reply_line (stage_of old.client.mark) answer.shape (length bytes)) → PollsAll result old (record old { client = client; store = store }) ask bytes
 took_done old ask bytes client store answer (Err e) after takes line = tt
 took_done old ask bytes client store answer (Ok text) after takes line = λ ws r boot most comes. taken ws r boot most old ask bytes comes client store after answer text.items takes line
 
@@ -309,3 +310,10 @@ stopped_done old ask bytes client store new armed (Ok text) after halts same_arm
     stopped ws r boot most old ask bytes comes client store after halts new text.items
     (opened_same old client store new (ap (λ (h : Held). h.filter) halts.client) opened)
     (subst (λ (a : Option Stop). IfSome a (λ stop. text.items ≡ stopped_line stop)) same_armed line)
+
+-- of those for whom what was asked and sent comes
+pub polls_so : (r : Relay) (b : BootParts MemoryWindows MemoryStore) (most : ℕ) (old new : MemberState) (ask : Ask) (bytes : List ℕ) (result : Result (Vec ℕ Global) OutOfMemory) → PollsAll result old new ask bytes
+    → ((ws : List Span) → StandsFor ws r → IsBooted ws b → IsMember ws old → Comes ws r (boot_numbers b) most old ask bytes)
+    → IfOk result (λ text. (ws : List Span) → StandsFor ws r → IsBooted ws b → IsMember ws old → Polls ws r (boot_numbers b) most text.items old new)
+polls_so r b most old new ask bytes (Ok text) polls comes = λ ws stands booted member. polls ws r (boot_numbers b) most (comes ws stands booted member)
+polls_so r b most old new ask bytes (Err e) polls comes = tt

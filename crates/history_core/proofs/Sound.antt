@@ -15,18 +15,25 @@ use Rattle.bus_types.specs.Relay.{Relay, StandsFor, new_relay, answer_of, stream
 use Rattle.bus_types.proofs.Floors.{stands_fresh, stands_committed, stands_answers}
 use Rattle.partition_filter.specs.Selection.{Selection, test_of}
 use Rattle.bus_stores.specs.declared.keeper.Stop.{Stop}
+use Rattle.bus_stores.specs.Memory.{MemoryStore}
+use Rattle.bus_stores.specs.MemoryLog.{MemoryWindows}
+use Rattle.bootstrap_core.specs.Boot.{BootParts}
+use Rattle.checkpoint.specs.declared.mark.Mark.{Mark}
+use Rattle.checkpoint.specs.declared.mark.Mark.TheVariants as marks
 use Rattle.client_switch.specs.Moves.{question}
 use Rattle.client_switch.specs.Moves.Wish.{NoWish}
 use Rattle.client_switch.proofs.Growing.{good_stays}
 use Rattle.trace_script.specs.declared.line.Line.{Line}
 use Rattle.trace_script.specs.declared.line.Line.TheVariants.{Show}
-use Rattle.history_core.specs.Script.{Follower, State, floor, relay_line, stream_line, shown}
-use Rattle.history_core.specs.Steps.{Step, place_of, at_name, with_consumer, most_consumers, most_commits, new_follower, next_window, fed, replied, followed, asked, looked_at, relay_step, consumer_step, commit_step, feed_step, stream_step, poll_step, crash_step, stop_step, show_step}
+use Rattle.trace_script.specs.Printed.{relay_line}
+use Rattle.history_core.specs.Script.{Follower, State, floor, stream_line, shown}
+use Rattle.history_core.specs.Steps.{Step, place_of, at_name, with_consumer, most_consumers, most_commits, new_follower, next_window, fed, replied, after_reply, asked, looked_at, relay_step, consumer_step, commit_step, feed_step, stream_step, poll_step, crash_step, stop_step, show_step}
 use Rattle.history_core.specs.declared.fault.StepFault.{StepFault}
 use Rattle.history_core.specs.declared.fault.StepFault.TheVariants.{BadLine, WriteFault, NoMemory}
-use Rattle.history_core.specs.Bus.{MemberState, Parts, follower, followers, boot_numbers, state_of, IsMember, IsBooted, IsSound, WasCalled, Calls}
+use Rattle.history_core.specs.Bus.{MemberState, Parts, follower, followers, boot_numbers, state_of, IsHeaded, IsMember, IsBooted, IsSound, WasCalled, Calls}
 use Rattle.history_core.specs.Acting.{IsWorking, Becomes, Polls, Shows, Publishes, Acts}
-use Rattle.history_core.proofs.Booted.{place_within, booted_stays}
+use Rattle.history_core.specs.Booting.{BootedAt}
+use Rattle.history_core.proofs.Booted.{place_within, place_stays, booted_stays}
 
 -- ---- lists
 
@@ -84,6 +91,13 @@ works_room b r bytes windows h fresh e =
 pub works_member : (b : Parts) (m : MemberState) (after : List MemberState) → IsSound b → after ≡ b.members ++ m ∷ [] → IsMember b.source m → IsWorking (record b { members = after })
 works_member b m after h e member = record { few = h.few; relay = h.relay; boot = h.boot; members = rw e (all_push (IsMember b.source) b.members m h.members member) }
 
+headed_stays : (ws : List Span) (w : Span) (mark : Mark) → IsHeaded ws mark → IsHeaded (ws ++ w ∷ []) mark
+headed_stays ws w (marks.Online scn) h = tt
+headed_stays ws w (marks.Delta since target cursor) h = tt
+headed_stays ws w (marks.Snapshot since start top cursor) h = tt
+headed_stays ws w (marks.Scanned since start top) h = tt
+headed_stays ws w (marks.Catchup since start target at) h = place_stays target ws w h
+
 -- a window that is committed leaves a consumer as it is
 member_stays : (ws : List Span) (w : Span) → Follows (end_of ws) w → (m : MemberState) → IsMember ws m → IsMember (ws ++ w ∷ []) m
 member_stays ws w f m h = record {
@@ -92,7 +106,8 @@ member_stays ws w f m h = record {
   stored = h.stored;
   good = good_stays ws w f (test_of m.client.filter) m.client.mark m.store.rows h.good;
   shown = h.shown;
-  reached = h.reached;
+  wished = h.wished;
+  headed = headed_stays ws w m.client.mark h.headed;
 }
 
 -- a bus with one more window
@@ -220,36 +235,24 @@ armed b i name stop m n text h f t becomes =
     let next : Follower = record (follower m) { armed = Some stop } in
     changed_at b i name (λ j c. (with_consumer (state_of b) j (record c { armed = Some stop }), [])) m n next text h f (λ j. (with_consumer (state_of b) i next, sym t j)) becomes
 
--- an element that is set at its own place
-same_set : (ms : List MemberState) (i : ℕ) (m : MemberState) → slice_get ms i ≡ Some m → slice_set ms i m ≡ ms
-same_set [] i m at = refl
-same_set (x ∷ ms) zero m at = (let same : x ≡ m = cc in ap (λ (y : MemberState). y ∷ ms) (sym same))
-same_set (x ∷ ms) (suc i) m at = ap (λ (ys : List MemberState). x ∷ ys) (same_set ms i m at)
+-- the bootstrap is another one with the same numbers
+works_boot : (b : Parts) (boot : BootParts MemoryWindows MemoryStore) → IsWorking b → BootedAt b.source (boot_numbers b.boot) boot → IsWorking (record b { boot = boot })
+works_boot b boot h at = record { few = h.few; relay = h.relay; boot = at.booted; members = h.members }
 
-pub polled : (b : Parts) (i : ℕ) (name : List ℕ) (most : ℕ) (m n : MemberState) (result : Result (Vec ℕ Global) StepFault) → IsSound b → IsFoundAt b.members name i m → Polls b.source b.relay (boot_numbers b.boot) most result m n
-    → Acts result (poll_step (state_of b) name most) b (record b { members = slice_set b.members i n })
+pub polled : (b : Parts) (i : ℕ) (name : List ℕ) (most : ℕ) (m n : MemberState) (boot : BootParts MemoryWindows MemoryStore) (text : List ℕ) → IsSound b → IsFoundAt b.members name i m → Polls b.source b.relay (boot_numbers b.boot) most text m n
+    → BootedAt b.source (boot_numbers b.boot) boot → Did (poll_step (state_of b) name most) (record b { boot = boot; members = slice_set b.members i n }) text
 unfolding poll_step
-polled b i name most m n (Ok text) h f p =
-    let place = f.place in
-    let found : slice_get (followers b.members) i ≡ Some (follower m) = slice_get-map follower b.members i ∙ ap (option_map follower) f.at in
+polled b i name most m n boot text h f p at =
     let floors = h.relay.floor in
-    let is : asked (state_of b) (follower m) most ≡ Some (follower n, text.items) =
-    (λ j. followed (follower m) (replied b.source (sym floors j) b.relay.tail (boot_numbers b.boot) (test_of m.client.filter) (question m.client.mark m.client.wish most))) ∙ p.0 in
-    let set : slice_set (followers b.members) i (follower n) ≡ followers (slice_set b.members i n) = sym (map-set follower b.members i n) in (
-      rw (← place, found) (ap (option_map (λ (a : Follower × List ℕ). (with_consumer (state_of b) i a.0, a.1))) is ∙ (λ j. Some (record (state_of b) { consumers = set j }, text.items))),
-      works_set b i n h p.1,
+    let is : asked (state_of b) (follower m) most ≡ (follower n, text) =
+    (λ j. after_reply (follower m) (replied b.source (sym floors j) b.relay.tail (boot_numbers b.boot) (test_of m.client.filter) (question m.client.mark m.client.wish most))) ∙ p.turn in
+    let numbers = at.is in
+    let did =
+    changed_at b i name (λ j c. (with_consumer (state_of b) j (asked (state_of b) c most).0, (asked (state_of b) c most).1)) m n (follower n) text h f
+    (λ j. (with_consumer (state_of b) i (is j).0, (is j).1)) (record { follows = refl; member = p.member }) in (
+      did.0 ∙ (λ j. Some (record (state_of (record b { members = slice_set b.members i n })) { boot = sym numbers j }, text)),
+      works_boot (record b { members = slice_set b.members i n }) boot did.1 at,
     )
-polled b i name most m n (Err BadLine) h f p =
-    let place = f.place in
-    let found : slice_get (followers b.members) i ≡ Some (follower m) = slice_get-map follower b.members i ∙ ap (option_map follower) f.at in
-    let floors = h.relay.floor in
-    let is : asked (state_of b) (follower m) most ≡ None =
-    (λ j. followed (follower m) (replied b.source (sym floors j) b.relay.tail (boot_numbers b.boot) (test_of m.client.filter) (question m.client.mark m.client.wish most))) ∙ p.0 in (
-      rw (← place, found) (ap (option_map (λ (a : Follower × List ℕ). (with_consumer (state_of b) i a.0, a.1))) is),
-      ap (λ (ms : List MemberState). record b { members = ms }) (ap (slice_set b.members i) p.1 ∙ same_set b.members i m f.at),
-    )
-polled b i name most m n (Err (WriteFault count)) h f p = absurd p
-polled b i name most m n (Err NoMemory) h f p = tt
 
 pub seen : (b : Parts) (i : ℕ) (name : List ℕ) (m n : MemberState) (text : List ℕ) → IsSound b → IsFoundAt b.members name i m → Shows b.source m n text → Did (show_step (state_of b) name) (record b { members = slice_set b.members i n }) text
 unfolding show_step

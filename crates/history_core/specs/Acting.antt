@@ -1,31 +1,26 @@
--- What the parts of a step do, before what it prints is written.
-use Rattle.std.specs.Prelude.{◌≡◌, ℕ, ◌≤◌, true, false, List, [], take, length, codes, Some, None, Result, Ok, Err, Vec}
+-- For private functions alone: what the parts of a step do, before what it prints is written.
+use Rattle.std.specs.Prelude.{◌≡◌, ℕ, ◌≤◌, true, false, List, [], take, length, Some, None, Result, Ok, Err, Vec}
 use Rattle.std.specs.Global.{Global}
 use Rattle.std.specs.List.{AllByRecursion}
 use Rattle.bus_types.specs.Change.{Test}
 use Rattle.bus_types.specs.Window.{Span}
 use Rattle.bus_types.specs.Timeline.{end_of, end_from, windows_between}
-use Rattle.bus_types.specs.Relay.{Relay, StandsFor, answer_of}
+use Rattle.bus_types.specs.Relay.{Relay, StandsFor}
 use Rattle.partition_filter.specs.Selection.{test_of}
-use Rattle.event_codec.specs.declared.answer.Answer.{Answer}
-use Rattle.event_codec.specs.declared.reply.Shape.{Shape}
-use Rattle.event_codec.specs.declared.reply.Shape.TheVariants.{Windows, Rows, Changes, Only}
-use Rattle.event_codec.specs.Frames.{answer_bytes}
-use Rattle.event_codec.specs.Reply.{reply_bytes}
+use Rattle.event_codec.specs.Forms.{shape_of}
+use Rattle.event_codec.specs.ReplyViews.{Spells}
 use Rattle.bus_wire.specs.declared.ask.Ask.{Ask}
-use Rattle.bus_wire.specs.declared.ask.Ask.TheVariants.{Stream, Start}
+use Rattle.bus_wire.specs.Lawful.{IsLawful}
 use Rattle.event_codec.specs.Questions.{Reply}
-use Rattle.event_codec.specs.Questions.Question.{Start as Begin}
-use Rattle.event_codec.specs.Questions.Reply.{Only as Alone}
-use Rattle.bus_wire.specs.True.{Boot, boot_reply}
+use Rattle.bus_wire.specs.True.{Boot}
 use Rattle.bus_stores.specs.Memory.{MemoryStore, last_mark}
 use Rattle.client_switch.specs.Moves.{question}
 use Rattle.client_switch.specs.Moves.Wish.{NoWish}
 use Rattle.client_switch.specs.Client.{IsStored}
 use Rattle.history_core.specs.declared.fault.StepFault.{StepFault}
 use Rattle.history_core.specs.declared.fault.StepFault.TheVariants.{BadLine, WriteFault, NoMemory}
-use Rattle.history_core.specs.Script.{Follower, shown, served_line, answer_line}
-use Rattle.history_core.specs.Steps.{Step, most_commits, replied, is_followed, followed, looked_at}
+use Rattle.history_core.specs.Script.{Follower, shown}
+use Rattle.history_core.specs.Steps.{Step, most_commits, replied, after_reply, looked_at}
 use Rattle.history_core.specs.Bus.{MemberState, Parts, follower, state_of, IsMember, IsBooted, IsSound, WasCalled}
 
 -- ---- consumers
@@ -53,33 +48,19 @@ pub record Becomes (ws : List Span) (next : Follower) (new : MemberState) : Type
   pub follows : follower new ≡ next
   pub member : IsMember ws new
 
--- the bytes of the reply to an ask: the relay's, or the bootstrap's
-abbrev pub IsSent : Relay → Boot → Ask → List ℕ → Type 0
-IsSent r boot (Stream scn filter most) bytes = bytes ≡ reply_bytes (answer_of r scn (test_of filter) most)
-IsSent r boot (Start since fresh) bytes = (answer : Answer) × ((ws : List Span) (test : Test) → boot_reply ws test boot (Begin since fresh) ≡ Alone answer) × (bytes ≡ answer_bytes answer)
-
--- it is built what a consumer does behind the reply to its ask
-abbrev pub IsAnswered : Boot → Ask → Type 0
-IsAnswered boot (Stream scn filter most) = Unit {0}
-IsAnswered boot (Start since fresh) = (ws : List Span) (test : Test) → is_followed (boot_reply ws test boot (Begin since fresh)) ≡ true
-
--- what a poll prints of a reply of this shape, with so many bytes
-abbrev pub shape_line : Shape → ℕ → List ℕ
-shape_line (Windows count last) bytes = served_line count bytes (codes " online ") last
-shape_line (Rows count scn more) bytes = []
-shape_line (Changes count more) bytes = []
-shape_line (Only answer) bytes = answer_line answer
+-- bytes that were sent are this reply, a lawful one
+pub record IsSent (ask : Ask) (bytes : List ℕ) (reply : Reply) : Type 0 where
+  pub lawful : IsLawful ask bytes (shape_of reply)
+  pub spells : Spells (shape_of reply) bytes reply
 
 -- the reply to a consumer of these windows that asks a relay and a bootstrap for at most so many bytes
 abbrev pub replied_to : List Span → Relay → Boot → ℕ → MemberState → Reply
 replied_to ws r boot most m = replied ws r.floor r.tail boot (test_of m.client.filter) (question m.client.mark m.client.wish most)
 
--- a consumer asked, and took the reply where it is built what it does then
-abbrev pub Polls : List Span → Relay → Boot → ℕ → Result (Vec ℕ Global) StepFault → MemberState → MemberState → Type 0
-Polls ws r boot most (Ok text) old new = (followed (follower old) (replied_to ws r boot most old) ≡ Some (follower new, text.items)) × IsMember ws new
-Polls ws r boot most (Err BadLine) old new = (followed (follower old) (replied_to ws r boot most old) ≡ None) × (new ≡ old)
-Polls ws r boot most (Err (WriteFault count)) old new = ⊥
-Polls ws r boot most (Err NoMemory) old new = Unit {0}
+-- a consumer asked, and took the reply
+pub record Polls (ws : List Span) (r : Relay) (boot : Boot) (most : ℕ) (text : List ℕ) (old new : MemberState) : Type 0 where
+  pub turn : after_reply (follower old) (replied_to ws r boot most old) ≡ (follower new, text)
+  pub member : IsMember ws new
 
 -- a consumer was shown
 pub record Shows (ws : List Span) (old new : MemberState) (text : List ℕ) : Type 0 where

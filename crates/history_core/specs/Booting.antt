@@ -1,4 +1,4 @@
--- What the bus makes of its bootstrap.
+-- For private functions alone: what the bus makes of its bootstrap.
 use Rattle.std.specs.Prelude.{◌≡◌, ℕ, ◌<◌, ◌≤◌, min, true, List, length, take}
 use Rattle.bus_types.specs.Window.{Span}
 use Rattle.bus_types.specs.Timeline.{IsTimeline, end_from, windows_between}

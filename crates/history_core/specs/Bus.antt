@@ -1,10 +1,10 @@
 -- The bus as it is kept, against the state of a script.
-use Rattle.std.specs.Prelude.{◌≡◌, ℕ, ◌<◌, ◌≤◌, Bool, false, List, [], length, map, take, slice_get, Option, Some, None, Result, Ok, Err}
+use Rattle.std.specs.Prelude.{◌≡◌, ℕ, ◌<◌, ◌≤◌, Bool, true, false, List, [], length, map, take, slice_get, Option, Some, None, Result, Ok, Err}
 use Rattle.std.specs.List.{AllByRecursion}
 use Rattle.std.specs.Io.KnownBytes.{Appends}
 use Rattle.bus_types.specs.Causes.{WasCounted}
 use Rattle.bus_types.specs.Window.{Span}
-use Rattle.bus_types.specs.Relay.{Relay, StandsFor}
+use Rattle.bus_types.specs.Relay.{Relay, StandsFor, is_place}
 use Rattle.partition_filter.specs.Selection.{test_of}
 use Rattle.checkpoint.specs.declared.mark.Mark.{Mark}
 use Rattle.checkpoint.specs.declared.mark.Mark.TheVariants.{Online, Delta, Snapshot, Scanned, Catchup}
@@ -12,8 +12,7 @@ use Rattle.bus_stores.specs.Memory.{MemoryStore, last_mark, told_by}
 use Rattle.bus_stores.specs.MemoryLog.{MemoryWindows, log_of}
 use Rattle.bus_wire.specs.True.{Boot}
 use Rattle.bootstrap_core.specs.Boot.{BootParts, told, numbers, Stands}
-use Rattle.client_switch.specs.Moves.{Wish}
-use Rattle.client_switch.specs.Moves.Wish.{NoWish, StartWish, FreshWish}
+use Rattle.client_switch.specs.Moves.{IsWished}
 use Rattle.client_switch.specs.Good.{Good}
 use Rattle.client_switch.specs.Client.{Held, IsStored}
 use Rattle.trace_script.specs.declared.line.Line.{Line}
@@ -58,17 +57,15 @@ state_of b = record { begun = b.begun; windows = b.source; room = b.relay.room; 
 
 -- ---- when a bus is sound
 
--- the marks and wishes that a script reaches so far, where nothing is built behind a beginning anew
-abbrev pub IsReached : Mark → Wish → Type 0
-IsReached (Online scn) NoWish = Unit {0}
-IsReached (Online scn) StartWish = Unit {0}
-IsReached (Online scn) FreshWish = ⊥
-IsReached (Delta since target cursor) wish = ⊥
-IsReached (Snapshot since start top cursor) wish = ⊥
-IsReached (Scanned since start top) wish = ⊥
-IsReached (Catchup since start target at) wish = ⊥
+-- a replay goes to a place of the timeline
+abbrev pub IsHeaded : List Span → Mark → Type 0
+IsHeaded ws (Online scn) = Unit {0}
+IsHeaded ws (Delta since target cursor) = Unit {0}
+IsHeaded ws (Snapshot since start top cursor) = Unit {0}
+IsHeaded ws (Scanned since start top) = Unit {0}
+IsHeaded ws (Catchup since start target at) = is_place target ws ≡ true
 
--- a consumer's client runs; its keeper fails only at a stop that is armed, holds the client's mark, or none where no commit was
+-- a consumer's client runs, and its wish is one that comes up at its mark; its keeper fails only at a stop that is armed, holds the client's mark, or none where no commit was
 -- made, and rows that are good for it, and was called at least as often as its rows were shown
 pub record IsMember (ws : List Span) (m : MemberState) : Type 0 where
   pub runs : m.client.halted ≡ false
@@ -76,7 +73,8 @@ pub record IsMember (ws : List Span) (m : MemberState) : Type 0 where
   pub stored : IsStored (last_mark m.store.marks) m.client.mark
   pub good : Good ws (test_of m.client.filter) m.client.mark m.store.rows
   pub shown : m.shows ≤ m.store.calls
-  pub reached : IsReached m.client.mark m.client.wish
+  pub wished : IsWished m.client.mark m.client.wish
+  pub headed : IsHeaded ws m.client.mark
 
 -- the bootstrap stands for the source, has met no fault, and its log, which has room for anything and begins at its base, and its
 -- keeper fail at no call

@@ -1,27 +1,19 @@
--- What comes to a consumer that polls.
-use Rattle.std.specs.Prelude.{◌≡◌, ℕ, List, false, Option, Some, None, Vec}
-use Rattle.std.specs.Global.{Global}
-use Rattle.bus_types.specs.Change.{Test}
+-- For private functions alone: what comes to a consumer that polls.
+use Rattle.std.specs.Prelude.{◌≡◌, ℕ, ◌<◌, ◌^◌, List}
 use Rattle.bus_types.specs.Window.{Span}
 use Rattle.bus_types.specs.Relay.{Relay, StandsFor}
+use Rattle.event_codec.specs.Questions.{Reply}
 use Rattle.bus_wire.specs.declared.ask.Ask.{Ask}
-use Rattle.bus_wire.specs.declared.ask.Ask.TheVariants.{Stream, Start}
-use Rattle.event_codec.specs.Questions.Question.{Start as Begin}
-use Rattle.bus_wire.specs.True.{Boot, IsBoot, boot_reply}
+use Rattle.bus_wire.specs.Asks.{question_of, test_in}
+use Rattle.bus_wire.specs.True.{Boot, IsBoot}
 use Rattle.client_switch.specs.Client.{IsAskOf, asks}
-use Rattle.history_core.specs.Steps.{is_followed, followed}
-use Rattle.history_core.specs.Bus.{MemberState, follower, IsMember}
-use Rattle.history_core.specs.Acting.{IsSent, IsAnswered, replied_to}
+use Rattle.history_core.specs.Steps.{replied}
+use Rattle.history_core.specs.Bus.{MemberState, IsMember}
+use Rattle.history_core.specs.Acting.{IsSent, replied_to}
 
--- it isn't built what a consumer does behind the reply to its ask
-abbrev pub IsUnanswered : Boot → Ask → Type 0
-IsUnanswered boot (Stream scn filter most) = ⊥
-IsUnanswered boot (Start since fresh) = (ws : List Span) (test : Test) → is_followed (boot_reply ws test boot (Begin since fresh)) ≡ false
-
--- the bytes of the reply to an ask, where it is built what a consumer does behind it
-abbrev pub Replies : Relay → Boot → Ask → Option (Vec ℕ Global) → Type 0
-Replies r boot ask (Some bytes) = IsSent r boot ask bytes.items × IsAnswered boot ask
-Replies r boot ask None = IsUnanswered boot ask
+-- the reply to an ask, of a relay and of a bootstrap of these windows
+abbrev pub answered : List Span → Relay → Boot → Ask → Reply
+answered ws r boot ask = replied ws r.floor r.tail boot (test_in ask) (question_of ask)
 
 -- a consumer of these windows made this ask, for at most so many bytes, and these bytes are what a relay of the windows, or a
 -- bootstrap of them, sent
@@ -30,10 +22,4 @@ pub record Comes (ws : List Span) (r : Relay) (boot : Boot) (most : ℕ) (old : 
   pub lawful : IsBoot ws boot
   pub member : IsMember ws old
   pub asked : IsAskOf old.client.filter (asks old.client most) ask
-  pub reply : IsSent r boot ask bytes
-  pub answered : IsAnswered boot ask
-
--- a consumer asked, and took the reply
-pub record TookReply (ws : List Span) (r : Relay) (boot : Boot) (most : ℕ) (old new : MemberState) (text : List ℕ) : Type 0 where
-  pub turn : followed (follower old) (replied_to ws r boot most old) ≡ Some (follower new, text)
-  pub member : IsMember ws new
+  pub sent : IsSent ask bytes (replied_to ws r boot most old)

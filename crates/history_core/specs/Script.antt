@@ -1,16 +1,16 @@
 -- The state of a script, and what is printed of it.
-use Rattle.std.specs.Prelude.{ℕ, Bool, false, List, [], ◌++◌, length, flat_map, codes, decimal, Option}
+use Rattle.std.specs.Prelude.{ℕ, ◌+◌, Bool, false, List, [], ◌++◌, length, flat_map, codes, decimal, Option}
 use Rattle.hex.specs.Hex.{encode_lower}
 use Rattle.bus_types.specs.declared.change.RowName.{RowName}
-use Rattle.bus_types.specs.Change.{key_text}
+use Rattle.bus_types.specs.Change.{key_text, changes_size}
 use Rattle.bus_types.specs.Window.{Span}
 use Rattle.bus_types.specs.Timeline.{end_of, total_size}
 use Rattle.bus_types.specs.Table.{RowList}
 use Rattle.bus_types.specs.View.{view}
 use Rattle.bus_types.specs.Relay.{Room, floor_of, Served}
 use Rattle.bus_types.specs.Relay.Served.{NotFound as NoWindow, Empty as NothingNew, TooSmall as TooLarge, Windows as SomeWindows}
-use Rattle.event_codec.specs.declared.answer.Answer.{Answer}
-use Rattle.event_codec.specs.declared.answer.Answer.TheVariants.{NotFound, Empty, TooSmall, Behind, LogGone, StartDelta, StartSnapshot, Target}
+use Rattle.event_codec.specs.Chunks.{frame_size}
+use Rattle.event_codec.specs.Forms.{shape_of}
 use Rattle.partition_filter.specs.Selection.{Selection, test_of}
 use Rattle.checkpoint.specs.declared.mark.Mark.{Mark}
 use Rattle.checkpoint.specs.declared.mark.Mark.TheVariants.{Online, Delta, Snapshot, Scanned, Catchup}
@@ -20,6 +20,9 @@ use Rattle.event_codec.specs.Questions.{Reply}
 use Rattle.client_switch.specs.Moves.{Wish}
 use Rattle.event_codec.specs.Questions.Reply.{Windows, Rows, Changes, Only}
 use Rattle.bus_wire.specs.True.{Boot}
+use Rattle.trace_script.specs.declared.printing.Stage.{Stage}
+use Rattle.trace_script.specs.declared.printing.Stage.TheVariants as stages
+use Rattle.trace_script.specs.Printed.{line_with, boot_line, reply_line}
 
 -- a consumer: its name, its filter, the mark that its keeper holds, what it wants beside it, the stop that its next commit
 -- meets, the texts of the marks that its commits set, in order, and how often its rows were shown
@@ -60,44 +63,39 @@ floor s = floor_of s.room s.windows s.end
 
 -- ---- printed lines
 
-abbrev pub line_with : List ℕ → ℕ → List ℕ
-line_with word n = word ++ codes " " ++ decimal n ++ codes "\n"
+-- the numbers of a bootstrap
+abbrev pub numbers_line : Boot → List ℕ
+numbers_line b = boot_line b.base b.applied b.high
 
-abbrev pub relay_line : ℕ → ℕ → List ℕ
-relay_line floor end = codes "relay " ++ decimal floor ++ codes " " ++ decimal end ++ codes "\n"
+-- the stage of a mark, as far as the line of a reply tells it
+abbrev pub stage_of : Mark → Stage
+stage_of (Online scn) = stages.Online scn
+stage_of (Delta since target cursor) = stages.Delta target
+stage_of (Snapshot since begins top cursor) = stages.Snapshot
+stage_of (Scanned since begins top) = stages.Scanned begins
+stage_of (Catchup since begins target at) = stages.Catchup target
 
-abbrev pub gap_line : ℕ → List ℕ
-gap_line floor = line_with (codes "gap") floor
+-- the bytes that a reply takes
+abbrev pub reply_size : Reply → ℕ
+reply_size (Windows ws) = total_size ws
+reply_size (Rows cs scn more) = changes_size cs + frame_size
+reply_size (Changes cs scn more) = changes_size cs + frame_size
+reply_size (Only answer) = 9
 
-abbrev pub boot_line : Boot → List ℕ
-boot_line b = codes "boot " ++ decimal b.base ++ codes " " ++ decimal b.applied ++ codes " " ++ decimal b.high ++ codes "\n"
+-- what a poll prints of a reply that a consumer took at this mark
+abbrev pub reply_text : Mark → Reply → List ℕ
+reply_text mark reply = reply_line (stage_of mark) (shape_of reply) (reply_size reply)
 
-abbrev pub served_line : ℕ → ℕ → List ℕ → ℕ → List ℕ
-served_line count bytes word scn = codes "served " ++ decimal count ++ codes " " ++ decimal bytes ++ word ++ decimal scn ++ codes "\n"
-
-abbrev pub answer_line : Answer → List ℕ
-answer_line (NotFound floor) = line_with (codes "notfound") floor
-answer_line (Empty end) = line_with (codes "empty") end
-answer_line (TooSmall need) = line_with (codes "small") need
-answer_line (Behind high) = line_with (codes "behind") high
-answer_line (LogGone base) = line_with (codes "gone") base
-answer_line (StartDelta high) = []
-answer_line (StartSnapshot applied) = []
-answer_line (Target target) = []
-
--- what a poll prints of a reply that was taken. Rows, changes and starts are asked for by no consumer yet
-abbrev pub reply_line : Reply → List ℕ
-reply_line (Windows ws) = served_line (length ws) (total_size ws) (codes " online ") (end_of ws)
-reply_line (Rows cs scn more) = []
-reply_line (Changes cs scn more) = []
-reply_line (Only answer) = answer_line answer
+-- windows that no consumer took
+abbrev pub sent_line : ℕ → ℕ → ℕ → List ℕ
+sent_line count bytes last = codes "served " ++ decimal count ++ codes " " ++ decimal bytes ++ codes " last " ++ decimal last ++ codes "\n"
 
 -- what a stream line prints of the relay's answer
 abbrev pub stream_line : Served → List ℕ
 stream_line (NoWindow floor) = line_with (codes "notfound") floor
 stream_line (NothingNew end) = line_with (codes "empty") end
 stream_line (TooLarge need) = line_with (codes "small") need
-stream_line (SomeWindows ws) = served_line (length ws) (total_size ws) (codes " last ") (end_of ws)
+stream_line (SomeWindows ws) = sent_line (length ws) (total_size ws) (end_of ws)
 
 -- what a poll prints whose commit met a stop
 abbrev pub stopped_line : Stop → List ℕ

@@ -12,14 +12,13 @@ use Rattle.bus_stores.specs.Memory.{next_count}
 use Rattle.checkpoint.specs.declared.mark.Mark.{Mark}
 use Rattle.checkpoint.specs.declared.mark.Mark.TheVariants.{Online}
 use Rattle.checkpoint.specs.Mark.{mark_text}
-use Rattle.event_codec.specs.declared.answer.Answer.TheVariants.{NotFound, Empty, TooSmall, Behind, LogGone, StartDelta, StartSnapshot, Target as GoTo}
 use Rattle.event_codec.specs.Questions.{Question, Reply}
-use Rattle.event_codec.specs.Questions.Reply.{Windows, Rows, Changes, Only}
 use Rattle.client_switch.specs.Moves.{Turn, question, turn}
 use Rattle.client_switch.specs.Moves.Wish.{NoWish}
 use Rattle.event_codec.specs.Questions.Question.{Stream, Start, Scan, Target, Catchup, Delta}
 use Rattle.bus_wire.specs.True.{Boot, reply_of, boot_reply}
-use Rattle.history_core.specs.Script.{Follower, State, floor, relay_line, gap_line, boot_line, stream_line, reply_line, stopped_line, shown}
+use Rattle.history_core.specs.Script.{Follower, State, floor, numbers_line, stream_line, reply_text, stopped_line, shown}
+use Rattle.trace_script.specs.Printed.{relay_line, gap_line}
 
 -- what a line leaves: the state after it and the text that it prints, or nothing where it is against a rule
 abbrev pub Step : Type 0
@@ -94,7 +93,7 @@ stream_step s scn test max = Some (s, stream_line (stream s.windows (floor s) s.
 
 -- the bootstrap has other numbers, which are printed
 abbrev pub booted : State → Boot → State × List ℕ
-booted s b = (record s { boot = b }, boot_line b)
+booted s b = (record s { boot = b }, numbers_line b)
 
 -- the SCN of the newest logged window after so many more of the windows that the relay published were logged, or those there are
 abbrev pub logged : State → ℕ → ℕ
@@ -154,37 +153,14 @@ turned c t text = if t.commits then committed c.armed c t text else (record c { 
 
 -- a consumer that took a reply, and what is printed of it
 abbrev pub after_reply : Follower → Reply → Follower × List ℕ
-after_reply c reply = turned c (turn c.mark reply) (reply_line reply)
-
--- whether it is built what a consumer does behind a reply; it isn't yet behind a beginning anew
-abbrev pub is_followed : Reply → Bool
-is_followed (Windows ws) = true
-is_followed (Rows cs scn more) = true
-is_followed (Changes cs scn more) = true
-is_followed (Only (NotFound floor)) = true
-is_followed (Only (Empty end)) = true
-is_followed (Only (TooSmall need)) = true
-is_followed (Only (Behind high)) = true
-is_followed (Only (LogGone base)) = false
-is_followed (Only (StartDelta high)) = false
-is_followed (Only (StartSnapshot applied)) = false
-is_followed (Only (GoTo target)) = true
-
--- what a consumer makes of a reply, where that is built
-abbrev pub followed : Follower → Reply → Option (Follower × List ℕ)
-followed c reply = if is_followed reply then Some (after_reply c reply) else None
+after_reply c reply = turned c (turn c.mark reply) (reply_text c.mark reply)
 
 -- one ask of a consumer, and its reply
-abbrev pub asked : State → Follower → ℕ → Option (Follower × List ℕ)
-asked s c max = followed c (replied s.windows (floor s) s.end s.boot (test_of c.filter) (question c.mark c.wish max))
-
--- what a line does that names a consumer, by its place, where the consumer lets it; else nothing
-abbrev pub at_name_if : State → List ℕ → (Follower → Option (Follower × List ℕ)) → Step
-at_name_if s name act =
-    option_and_then (λ i. option_and_then (λ c. option_map (λ a. (with_consumer s i a.0, a.1)) (act c)) (slice_get s.consumers i)) (place_of name s.consumers)
+abbrev pub asked : State → Follower → ℕ → Follower × List ℕ
+asked s c max = after_reply c (replied s.windows (floor s) s.end s.boot (test_of c.filter) (question c.mark c.wish max))
 
 unfoldable pub poll_step : State → List ℕ → ℕ → Step
-poll_step s name max = at_name_if s name (λ c. asked s c max)
+poll_step s name max = at_name s name (λ i c. (with_consumer s i (asked s c max).0, (asked s c max).1))
 
 -- ---- crashes, stops and tables
 

@@ -1,6 +1,9 @@
 ghost use Rattle.std.specs.Prelude.{◌≡◌, ◌≤◌, [], List, ℕ, IfOk, OnOk};
 ghost use Rattle.bus_types.specs.Window.{Span};
 ghost use Rattle.bus_types.specs.Timeline.{IsTimeline};
+ghost use Rattle.event_codec.specs.Forms.{bytes_of};
+ghost use Rattle.bus_wire.specs.Asks.{question_of, test_in, AsksBootstrap};
+ghost use Rattle.bus_wire.specs.True.{boot_reply};
 ghost use Rattle.history_core.specs.Script.{start};
 ghost use Rattle.history_core.specs.Bus.{boot_numbers, IsBooted};
 ghost use Rattle.history_core.specs.Booting.{MemoryParts, AreParts, BootedAt, logged_to, applied_to, trimmed_to, end_after, CanLog, HasNext, IsNextReply, CanTake};
@@ -8,6 +11,7 @@ ghost use Rattle.history_core.specs.Booting.{MemoryParts, AreParts, BootedAt, lo
 use bootstrap_core::{Boot, BootFault, BootOpen, TakeLog};
 use bus_stores::{MemoryKeeper, MemoryLog};
 use bus_types::NoMemory;
+use bus_wire::Ask;
 use partition_filter::Filter;
 use relay_core::{Buffer, Served, relay_answer};
 use std::alloc::Global;
@@ -184,6 +188,21 @@ pub(crate) fn trim(alloc: Global, boot: &mut MemoryBoot, scn: u64) -> Result<(),
 {
     match boot.trim(alloc, scn) {
         Ok(_) => Ok(()),
+        Err(BootFault::NoMemory) => Err(NoMemory),
+        Err(_) => unreachable!(),
+    }
+}
+
+/// The bytes of its reply to an ask that isn't for a stream.
+pub(crate) fn answer(alloc: Global, boot: &mut MemoryBoot, ask: &Ask) -> Result<Vec<u8>, NoMemory>
+    requires bootstrap { AsksBootstrap ask.now }
+    requires booted { (ws : List Span) × IsTimeline ws × IsBooted ws boot.old }
+    ensures reply { IfOk result (λ reply. (ws : List Span) → IsTimeline ws → IsBooted ws boot.old → reply.items ≡ bytes_of (boot_reply ws (test_in ask.now) (boot_numbers boot.old) (question_of ask.now))) }
+    ensures boot { OnOk result ((ws : List Span) → IsTimeline ws → IsBooted ws boot.old → BootedAt ws (boot_numbers boot.old) boot.new) }
+{
+    let mut reply = Vec::new(alloc);
+    match boot.answer(alloc, ask, &mut reply) {
+        Ok(_) => Ok(reply),
         Err(BootFault::NoMemory) => Err(NoMemory),
         Err(_) => unreachable!(),
     }

@@ -23,7 +23,7 @@ use relay_core::{Buffer, relay_answer};
 use source_db::SourceDb;
 use std::alloc::Global;
 use std::marker::Model;
-use trace_script::{Line, Name};
+use trace_script::{Line, Name, gap_line, relay_line};
 
 /// The most consumers of a bus.
 const MOST_CONSUMERS: usize = 64;
@@ -234,7 +234,7 @@ impl<B: Buffer + Drop> Bus<B> {
     {
         let next = first(self.source.windows_after(self.relay.tail()), count);
         publish(alloc, &mut self.relay, next)?;
-        Ok(text::relay(alloc, self.relay.floor(), self.relay.tail())?.into_bytes())
+        Ok(relay_line(alloc, self.relay.floor(), self.relay.tail())?.into_bytes())
     }
 
     // The bootstrap logs the next windows that the relay keeps.
@@ -244,10 +244,10 @@ impl<B: Buffer + Drop> Bus<B> {
         ensures { Acts result (log_step (state_of self.old) count) self.old self.new }
     {
         if self.boot.high() < self.relay.floor() {
-            return Ok(text::gap(alloc, self.relay.floor())?.into_bytes());
+            return Ok(gap_line(alloc, self.relay.floor())?.into_bytes());
         }
         log_windows(alloc, &self.relay, &mut self.boot, count)?;
-        Ok(text::boot(alloc, &self.boot)?.into_bytes())
+        Ok(text::boot(alloc, &self.boot)?)
     }
 
     // The bootstrap applies the next logged windows.
@@ -257,7 +257,7 @@ impl<B: Buffer + Drop> Bus<B> {
         ensures { Acts result (apply_step (state_of self.old) count) self.old self.new }
     {
         apply_windows(alloc, &mut self.boot, count)?;
-        Ok(text::boot(alloc, &self.boot)?.into_bytes())
+        Ok(text::boot(alloc, &self.boot)?)
     }
 
     // The bootstrap's log may drop windows.
@@ -267,7 +267,7 @@ impl<B: Buffer + Drop> Bus<B> {
         ensures { Acts result (trim_step (state_of self.old) scn) self.old self.new }
     {
         trim(alloc, &mut self.boot, scn)?;
-        Ok(text::boot(alloc, &self.boot)?.into_bytes())
+        Ok(text::boot(alloc, &self.boot)?)
     }
 
     // The bootstrap is opened again.
@@ -277,7 +277,7 @@ impl<B: Buffer + Drop> Bus<B> {
         ensures { Acts result (restart_step (state_of self.old)) self.old self.new }
     {
         restart(alloc, &mut self.boot)?;
-        Ok(text::boot(alloc, &self.boot)?.into_bytes())
+        Ok(text::boot(alloc, &self.boot)?)
     }
 
     // What the relay answers to who isn't a consumer.
@@ -307,7 +307,7 @@ impl<B: Buffer + Drop> Bus<B> {
             return Err(StepFault::BadLine);
         };
         let member = &mut self.members[i];
-        member.poll(alloc, &self.relay, &self.boot, max)
+        Ok(member.poll(alloc, &self.relay, &mut self.boot, max)?)
     }
 
     // A consumer's client is opened again.

@@ -71,5 +71,5 @@ pub fn worked_scripts_of_a_bootstrap()
     ensures gap { outcome (codes "relay 1048576 1\nconsumer c all\ncommit 50 0/1=aa\nfeed 1\nlog 1\npoll c 1000\ncommit 60 0/1=bb\ncommit 70 0/2=cc\nfeed 2\npoll c 1000\npoll c 1000\nlog 1\npoll c 1000\nshow c\n")
         ≡ (codes "relay 0 50\nboot 0 0 50\nserved 1 41 online 50\nrelay 60 70\nnotfound 60\nbehind 50\ngap 60\nnotfound 60\nshow c online 50 1\n0/1=aa\n", Finished) }
     ensures anew { outcome (codes "relay 1048576 1\nconsumer c all\ncommit 10 0/1=aa\nfeed 1\nlog 1\ncommit 20 0/2=bb\nfeed 1\nlog 1\npoll c 1000\npoll c 1000\n")
-        ≡ (codes "relay 0 10\nboot 0 0 10\nrelay 10 20\nboot 0 0 20\nnotfound 10\n", BadAt 10) }
+        ≡ (codes "relay 0 10\nboot 0 0 10\nrelay 10 20\nboot 0 0 20\nnotfound 10\nstart delta 0 20\n", Finished) }
 {}

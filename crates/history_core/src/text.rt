@@ -2,38 +2,36 @@ ghost use Rattle.std.specs.Prelude.{◌≡◌, ◌++◌, map, codes, decimal, If
 ghost use Rattle.bus_types.specs.Relay as relays;
 ghost use Rattle.bus_types.specs.Rows.{pair_of};
 ghost use Rattle.event_codec.specs.Reply.{IsServed};
-ghost use Rattle.history_core.specs.Script.{relay_line, gap_line, boot_line, line_with, served_line, stream_line, answer_line, stopped_line, row_line, rows_text};
+ghost use Rattle.trace_script.specs.Printed.{line_with, reply_line};
+ghost use Rattle.history_core.specs.Script.{numbers_line, sent_line, stream_line, stopped_line, row_line, rows_text};
 ghost use Rattle.history_core.specs.Bus.{boot_numbers};
-ghost use Rattle.history_core.specs.Acting.{shape_line};
 
 use crate::boot::MemoryBoot;
 use bus_stores::Stop;
 use bus_types::{Key, NoMemory, Row};
-use event_codec::{Answer, Served, Shape};
+use event_codec::{Served, Shape};
 use std::alloc::Global;
-
-/// What a line prints that moves the relay.
-pub(crate) fn relay(alloc: Global, floor: u64, end: u64) -> Result<String, NoMemory>
-    ensures { IfOk result (λ text. string_bytes text ≡ relay_line floor end) }
-{
-    Ok(format!(in alloc; "relay {floor} {end}\n")?)
-}
-
-/// What a line prints where the relay has evicted windows that weren't logged.
-pub(crate) fn gap(alloc: Global, floor: u64) -> Result<String, NoMemory>
-    ensures { IfOk result (λ text. string_bytes text ≡ gap_line floor) }
-{
-    line_with(alloc, "gap", floor)
-}
+use trace_script::{Stage, boot_line, reply_line};
 
 /// What a line prints that moves the bootstrap.
-pub(crate) fn boot(alloc: Global, boot: &MemoryBoot) -> Result<String, NoMemory>
-    ensures { IfOk result (λ text. string_bytes text ≡ boot_line (boot_numbers boot.now)) }
+pub(crate) fn boot(alloc: Global, boot: &MemoryBoot) -> Result<Vec<u8>, NoMemory>
+    ensures { IfOk result (λ text. text.items ≡ numbers_line (boot_numbers boot.now)) }
 {
-    let base = boot.base();
-    let applied = boot.applied();
-    let high = boot.high();
-    Ok(format!(in alloc; "boot {base} {applied} {high}\n")?)
+    let text = boot_line(alloc, boot.base(), boot.applied(), boot.high())?;
+    Ok(text.into_bytes())
+}
+
+/// What a poll prints of a reply of this shape, with so many bytes, that its consumer took at this stage.
+pub(crate) fn reply(
+    alloc: Global,
+    stage: &Stage,
+    shape: &Shape,
+    bytes: u64,
+) -> Result<Vec<u8>, NoMemory>
+    ensures { IfOk result (λ text. text.items ≡ reply_line stage.now shape.now bytes) }
+{
+    let text = reply_line(alloc, stage, shape, bytes)?;
+    Ok(text.into_bytes())
 }
 
 // A word and a number.
@@ -43,43 +41,11 @@ fn line_with(alloc: Global, word: &str, number: u64) -> Result<String, NoMemory>
     Ok(format!(in alloc; "{word} {number}\n")?)
 }
 
-// Windows that a consumer took.
-fn served(alloc: Global, count: u32, bytes: u64, last: u64) -> Result<String, NoMemory>
-    ensures { IfOk result (λ text. string_bytes text ≡ served_line count bytes (codes " online ") last) }
-{
-    Ok(format!(in alloc; "served {count} {bytes} online {last}\n")?)
-}
-
 // Windows that are no consumer's.
 fn sent(alloc: Global, count: u32, bytes: u64, last: u64) -> Result<String, NoMemory>
-    ensures { IfOk result (λ text. string_bytes text ≡ served_line count bytes (codes " last ") last) }
+    ensures { IfOk result (λ text. string_bytes text ≡ sent_line count bytes last) }
 {
     Ok(format!(in alloc; "served {count} {bytes} last {last}\n")?)
-}
-
-/// What a poll prints of a reply of this shape, with so many bytes, that its consumer took.
-pub(crate) fn reply(alloc: Global, shape: &Shape, bytes: u64) -> Result<Vec<u8>, NoMemory>
-    ensures { IfOk result (λ text. text.items ≡ shape_line shape.now bytes) }
-{
-    match shape {
-        Shape::Windows { count, last } => Ok(served(alloc, *count, bytes, *last)?.into_bytes()),
-        Shape::Only(answer) => answered(alloc, answer),
-        Shape::Rows { .. } | Shape::Changes { .. } => Ok(Vec::new(alloc)),
-    }
-}
-
-// What a poll prints of an answer.
-fn answered(alloc: Global, answer: &Answer) -> Result<Vec<u8>, NoMemory>
-    ensures { IfOk result (λ text. text.items ≡ answer_line answer.now) }
-{
-    match *answer {
-        Answer::NotFound(floor) => Ok(line_with(alloc, "notfound", floor)?.into_bytes()),
-        Answer::Empty(end) => Ok(line_with(alloc, "empty", end)?.into_bytes()),
-        Answer::TooSmall(need) => Ok(line_with(alloc, "small", need)?.into_bytes()),
-        Answer::Behind(high) => Ok(line_with(alloc, "behind", high)?.into_bytes()),
-        Answer::LogGone(base) => Ok(line_with(alloc, "gone", base)?.into_bytes()),
-        Answer::StartDelta(_) | Answer::StartSnapshot(_) | Answer::Target(_) => Ok(Vec::new(alloc)),
-    }
 }
 
 /// What a stream line prints of what the relay serves.

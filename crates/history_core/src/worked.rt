@@ -37,5 +37,5 @@ pub fn worked_steps_of_a_bootstrap()
     ensures anew { printed start ((λ s. relay_step s 1048576 1) ∷ (λ s. consumer_step s (codes "c") All) ∷ (λ s. commit_step s 10 (put 1 ∷ []))
         ∷ (λ s. feed_step s 1) ∷ (λ s. log_step s 1) ∷ (λ s. commit_step s 20 (put 2 ∷ [])) ∷ (λ s. feed_step s 1) ∷ (λ s. log_step s 1)
         ∷ (λ s. poll_step s (codes "c") 1000) ∷ (λ s. poll_step s (codes "c") 1000) ∷ [])
-        ≡ None }
+        ≡ Some (codes "relay 0 10\nboot 0 0 10\nrelay 10 20\nboot 0 0 20\nnotfound 10\nstart delta 0 20\n") }
 {}

@@ -1,3 +1,11 @@
 pub mod Gates
 pub mod Images
 pub mod Segments
+pub mod Records
+pub mod Lookings
+pub mod Scannings
+pub mod Headings
+pub mod Openings
+pub mod Lookups
+pub mod Nexts
+pub mod OneReading

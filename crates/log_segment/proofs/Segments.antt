@@ -12,7 +12,7 @@ use Rattle.log_disk.specs.Disk.{DiskState, LeavesOnly, BothTold, Torn}
 use Rattle.log_disk.specs.Pending.{put}
 use Rattle.log_disk.proofs.Moments.{started, weaker}
 use Rattle.log_segment.specs.declared.segment.Entry.{Entry}
-use Rattle.log_segment.specs.Image.{Ends, EndsEither, records, whole, IsFree, StandsFor, head_bytes, record_bytes}
+use Rattle.log_segment.specs.Image.{Ends, EndsEither, records, whole, IsFree, StandsFor, HoldsInUse, head_bytes, record_bytes}
 use Rattle.log_segment.specs.Gate.{RestsAt, RestsBehind, NoShorter, WritesLasting, CutsLasting, PutsBehind}
 use Rattle.log_segment.specs.Segment.{Numbers, SegmentParts, SegmentState, told, RisesTo, IsSegment, numbers_of, free_numbers, Stands, StandsFree, BeginsBehind, Frees, Formats, Appends, with_window, is_full}
 use Rattle.log_segment.proofs.Images.{length-push, whole-push, entries-push}
@@ -41,16 +41,16 @@ still_segment a b n is seen = record { some = is.some; room = reach_stays n.used
 -- ---- begin
 
 module _ (prev : ℕ) (text : List ℕ) (a b : DiskState) (m : Numbers) (text_is : text ≡ head_bytes prev ++ 0 ∷ []) where
-  begun_leaves : (r : Result Unit Failed) → PutsBehind 0 text a b r → StandsFree (state a m) → LeavesOnly a.clock b.clock (λ c. IsFree c ⊎ StandsFor prev [] c)
-  begun_leaves r p free = weaker a.clock b.clock (EndsEither [] (head_bytes prev)) _
-      (λ c. ⊎_elim (λ is_free. inl is_free) (λ begun. inr (subst (λ (l : List ℕ). Ends (165 ∷ l) c) (sym (append-nil (head_bytes prev))) begun)))
+  begun_leaves : (r : Result Unit Failed) → PutsBehind 0 text a b r → prev ≤ MAX_SCN → StandsFree (state a m) → LeavesOnly a.clock b.clock (λ c. IsFree c ⊎ HoldsInUse prev [] c)
+  begun_leaves r p low free = weaker a.clock b.clock (EndsEither [] (head_bytes prev)) _
+      (λ c. ⊎_elim (λ is_free. inl is_free) (λ begun. inr (record { low = low; chained = tt; ends = subst (λ (l : List ℕ). Ends (165 ∷ l) c) (sym (append-nil (head_bytes prev))) begun })))
       (p.crash [] (head_bytes prev) refl text_is free.rests)
 
   pub begun : (n : Numbers) (x : Unit {0}) → PutsBehind 0 text a b (Ok x) → n ≡ numbers_of m.lost prev [] → prev ≤ MAX_SCN → BeginsBehind prev (state a m) (state b n) (Ok x)
   begun n x p is low = record {
     counts = sum_cause a.faults b.faults m.lost n.lost (Ok x) (lost_of n _ is) p.cause;
     numbers = is;
-    crash = begun_leaves (Ok x) p;
+    crash = begun_leaves (Ok x) p low;
     done = λ free. record {
       low = low;
       chained = tt;
@@ -59,8 +59,8 @@ module _ (prev : ℕ) (text : List ℕ) (a b : DiskState) (m : Numbers) (text_is
     };
   }
 
-  pub not_begun : (e : Failed) → PutsBehind 0 text a b (Err e) → BeginsBehind prev (state a m) (state b m) (Err e)
-  not_begun e p = record { counts = sum_cause a.faults b.faults m.lost m.lost (Err e) refl p.cause; numbers = refl; crash = begun_leaves (Err e) p; done = tt }
+  pub not_begun : (e : Failed) → PutsBehind 0 text a b (Err e) → prev ≤ MAX_SCN → BeginsBehind prev (state a m) (state b m) (Err e)
+  not_begun e p low = record { counts = sum_cause a.faults b.faults m.lost m.lost (Err e) refl p.cause; numbers = refl; crash = begun_leaves (Err e) p low; done = tt }
 
 -- the same, of a segment as it stood and as it is seen
 module _ {D : Type 0} (st : D → DiskState) (old view : SegmentParts D) (is_view : view ≡ old) where
@@ -71,9 +71,9 @@ module _ {D : Type 0} (st : D → DiskState) (old view : SegmentParts D) (is_vie
       (subst (λ (e : D). BeginsBehind prev (told st view) (state (st e) new.numbers) (Ok x)) (sym same)
       (begun prev text (st view.disk) (st d) view.numbers text_is new.numbers x p is low))
 
-  pub not_begun_by : (prev : ℕ) (text : List ℕ) (d : D) (e : Failed) → text ≡ head_bytes prev ++ 0 ∷ [] → PutsBehind 0 text (st view.disk) (st d) (Err e) → BeginsBehind prev (told st old) (state (st d) view.numbers) (Err e)
-  not_begun_by prev text d e text_is p =
-      subst (λ (o : SegmentParts D). BeginsBehind prev (told st o) (state (st d) view.numbers) (Err e)) is_view (not_begun prev text (st view.disk) (st d) view.numbers text_is e p)
+  pub not_begun_by : (prev : ℕ) (text : List ℕ) (d : D) (e : Failed) → text ≡ head_bytes prev ++ 0 ∷ [] → PutsBehind 0 text (st view.disk) (st d) (Err e) → prev ≤ MAX_SCN → BeginsBehind prev (told st old) (state (st d) view.numbers) (Err e)
+  not_begun_by prev text d e text_is p low =
+      subst (λ (o : SegmentParts D). BeginsBehind prev (told st o) (state (st d) view.numbers) (Err e)) is_view (not_begun prev text (st view.disk) (st d) view.numbers text_is e p low)
 
 -- ---- free
 
@@ -86,11 +86,11 @@ module _ (a b : DiskState) (m : Numbers) where
     in_use : RestsAt (165 ∷ tail) a
     in_use = subst (λ (l : List ℕ). RestsAt l a) stands.rests.ends.parts stands.rests.rests
 
-    used_or_free : (c : List ℕ) → Torn 0 1 (165 ∷ tail) c → StandsFor from ws c ⊎ IsFree c
+    used_or_free : (c : List ℕ) → Torn 0 1 (165 ∷ tail) c → HoldsInUse from ws c ⊎ IsFree c
     used_or_free c torn =
         let is : c ≡ get_or c 0 0 ∷ tail = torn_gate [] tail 165 0 refl c torn in
         elim (cases_eq (get_or c 0 0) 165) [
-          | inl open_gate ↦ inl (record { gate = stands.rests.ends.gate; rest = stands.rests.ends.rest; closed = stands.rests.ends.closed; parts = is ∙ ap (λ (g : ℕ). g ∷ tail) open_gate })
+          | inl open_gate ↦ inl (record { low = stands.low; chained = stands.chained; ends = record { gate = stands.rests.ends.gate; rest = stands.rests.ends.rest; closed = stands.rests.ends.closed; parts = is ∙ ap (λ (g : ℕ). g ∷ tail) open_gate } })
           | inr shut ↦ inr (record { gate = get_or c 0 0; rest = tail; closed = shut; parts = is })
         ]
 
@@ -101,7 +101,7 @@ module _ (a b : DiskState) (m : Numbers) where
       ends = record { gate = 0; rest = tail; closed = omega arith; parts = refl };
     }
 
-  closed_leaves : (r : Result Unit Failed) → WritesLasting 0 (0 ∷ []) a b r → (from : ℕ) (ws : List Span) → Stands from ws (state a m) → LeavesOnly a.clock b.clock (λ c. StandsFor from ws c ⊎ IsFree c)
+  closed_leaves : (r : Result Unit Failed) → WritesLasting 0 (0 ∷ []) a b r → (from : ℕ) (ws : List Span) → Stands from ws (state a m) → LeavesOnly a.clock b.clock (λ c. HoldsInUse from ws c ⊎ IsFree c)
   closed_leaves r w from ws stands = weaker a.clock b.clock (Torn 0 1 (165 ∷ tail from ws stands)) _ (used_or_free from ws stands) (w.crash (165 ∷ tail from ws stands) (in_use from ws stands))
 
   pub freed : (n : Numbers) (x : Unit {0}) → WritesLasting 0 (0 ∷ []) a b (Ok x) → n ≡ free_numbers m.lost → Frees (state a m) (state b n) (Ok x)
@@ -145,11 +145,11 @@ pub ruleset formats = (formatted, not_formatted)
 
 -- ---- append
 
-timeline-push : (from : ℕ) (ws : List Span) (w : Span) → IsTimelineFrom from ws → Follows (end_from from ws) w → IsTimelineFrom from (ws ++ w ∷ [])
+pub timeline-push : (from : ℕ) (ws : List Span) (w : Span) → IsTimelineFrom from ws → Follows (end_from from ws) w → IsTimelineFrom from (ws ++ w ∷ [])
 timeline-push from [] w chained follows = (follows, tt)
 timeline-push from (v ∷ ws) w chained follows = (chained.0, timeline-push v.scn ws w chained.1 follows)
 
-end_push : (from : ℕ) (ws : List Span) (w : Span) → end_from from (ws ++ w ∷ []) ≡ w.scn
+pub end_push : (from : ℕ) (ws : List Span) (w : Span) → end_from from (ws ++ w ∷ []) ≡ w.scn
 end_push from [] w = refl
 end_push from (v ∷ ws) w = end_push v.scn ws w
 
@@ -172,9 +172,13 @@ module _ (w : Span) (text : List ℕ) (place : ℕ) (a b : DiskState) (m : Numbe
     more : (c : List ℕ) → Ends (whole from ws ++ 165 ∷ record_bytes w) c → StandsFor from (ws ++ w ∷ []) c
     more c ends = subst (λ (l : List ℕ). Ends l c) (sym (whole-push from ws w)) ends
 
-    appended_leaves : (r : Result Unit Failed) → PutsBehind place text a b r → LeavesOnly a.clock b.clock (λ c. StandsFor from ws c ⊎ StandsFor from (ws ++ w ∷ []) c)
-    appended_leaves r p = weaker a.clock b.clock (EndsEither (whole from ws) (record_bytes w)) _
-        (λ c. ⊎_elim (λ old. inl old) (λ new. inr (more c new))) (p.crash (whole from ws) (record_bytes w) front_is text_is stands.rests)
+    chained_more : Follows m.high w → IsTimelineFrom from (ws ++ w ∷ [])
+    chained_more follows = timeline-push from ws w stands.chained (subst (λ (h : ℕ). Follows h w) (ap (λ (k : Numbers). k.high) stands.numbers) follows)
+
+    appended_leaves : Follows m.high w → (r : Result Unit Failed) → PutsBehind place text a b r → LeavesOnly a.clock b.clock (λ c. HoldsInUse from ws c ⊎ HoldsInUse from (ws ++ w ∷ []) c)
+    appended_leaves follows r p = weaker a.clock b.clock (EndsEither (whole from ws) (record_bytes w)) _
+        (λ c. ⊎_elim (λ old. inl (record { low = stands.low; chained = stands.chained; ends = old })) (λ new. inr (record { low = stands.low; chained = chained_more follows; ends = more c new })))
+        (p.crash (whole from ws) (record_bytes w) front_is text_is stands.rests)
 
     now_stands : (n : Numbers) (x : Unit {0}) → PutsBehind place text a b (Ok x) → n ≡ with_window w m → Follows m.high w → Stands from (ws ++ w ∷ []) (state b n)
     now_stands n x p is follows = record {
@@ -189,18 +193,18 @@ module _ (w : Span) (text : List ℕ) (place : ℕ) (a b : DiskState) (m : Numbe
     faults = (sum_cause a.faults b.faults m.lost n.lost (Ok x) (lost_of n _ is) p.cause).later;
     failed = tt;
     leaves = (room, is);
-    crash = λ from ws stands. appended_leaves from ws stands (Ok x) p;
+    crash = λ from ws stands. appended_leaves from ws stands follows (Ok x) p;
     done = λ from ws stands. now_stands from ws stands n x p is follows;
   }
 
-  pub not_appended : (e : Failed) → PutsBehind place text a b (Err e) → is_full (span_size w) (state a m) ≡ false → Appends w (state a m) (state b m) (Err faults.Failed)
-  not_appended e p room =
+  pub not_appended : (e : Failed) → PutsBehind place text a b (Err e) → Follows m.high w → is_full (span_size w) (state a m) ≡ false → Appends w (state a m) (state b m) (Err faults.Failed)
+  not_appended e p follows room =
       let cause = sum_cause a.faults b.faults m.lost m.lost (Err e) refl p.cause in
-      record { faults = cause.later; failed = cause.failed; leaves = (room, refl); crash = λ from ws stands. appended_leaves from ws stands (Err e) p; done = tt }
+      record { faults = cause.later; failed = cause.failed; leaves = (room, refl); crash = λ from ws stands. appended_leaves from ws stands follows (Err e) p; done = tt }
 
 module _ (w : Span) (a : DiskState) (m : Numbers) where
-  stays : (from : ℕ) (ws : List Span) → Stands from ws (state a m) → LeavesOnly a.clock a.clock (λ c. StandsFor from ws c ⊎ StandsFor from (ws ++ w ∷ []) c)
-  stays from ws stands = started a.clock _ (λ c left. inl (subst (StandsFor from ws) (sym (stands.rests.rests.only c left)) stands.rests.ends))
+  stays : (from : ℕ) (ws : List Span) → Stands from ws (state a m) → LeavesOnly a.clock a.clock (λ c. HoldsInUse from ws c ⊎ HoldsInUse from (ws ++ w ∷ []) c)
+  stays from ws stands = started a.clock _ (λ c left. inl (record { low = stands.low; chained = stands.chained; ends = subst (StandsFor from ws) (sym (stands.rests.rests.only c left)) stands.rests.ends }))
 
   pub full : is_full (span_size w) (state a m) ≡ true → Appends w (state a m) (state a m) (Err faults.Full)
   full none = record { faults = omega arith; failed = tt; leaves = (none, refl); crash = stays; done = tt }
@@ -215,10 +219,10 @@ module _ {D : Type 0} (st : D → DiskState) (old view : SegmentParts D) (is_vie
       subst (λ (o : SegmentParts D). Appends w (told st o) (state (st d) n) (Ok y)) is_view (appended w text place (st view.disk) (st d) view.numbers text_is at n x y p is follows room)
 
   pub not_appended_by : (text : List ℕ) (place : ℕ) (d : D) (n : Numbers) (e : Failed) → n ≡ view.numbers → text ≡ record_bytes w ++ 0 ∷ [] → view.numbers.used ≡ place + 1 → PutsBehind place text (st view.disk) (st d) (Err e)
-      → is_full (span_size w) (told st view) ≡ false → Appends w (told st old) (state (st d) n) (Err faults.Failed)
-  not_appended_by text place d n e same text_is at p room =
+      → Follows view.numbers.high w → is_full (span_size w) (told st view) ≡ false → Appends w (told st old) (state (st d) n) (Err faults.Failed)
+  not_appended_by text place d n e same text_is at p follows room =
       subst (λ (o : SegmentParts D). Appends w (told st o) (state (st d) n) (Err faults.Failed)) is_view
-      (subst (λ (k : Numbers). Appends w (told st view) (state (st d) k) (Err faults.Failed)) (sym same) (not_appended w text place (st view.disk) (st d) view.numbers text_is at e p room))
+      (subst (λ (k : Numbers). Appends w (told st view) (state (st d) k) (Err faults.Failed)) (sym same) (not_appended w text place (st view.disk) (st d) view.numbers text_is at e p follows room))
 
   pub full_by : (n : Numbers) → n ≡ view.numbers → is_full (span_size w) (told st view) ≡ true → Appends w (told st old) (state (st view.disk) n) (Err faults.Full)
   full_by n same none = subst (λ (o : SegmentParts D). Appends w (told st o) (state (st view.disk) n) (Err faults.Full)) is_view

@@ -1,7 +1,9 @@
 -- The bytes of a segment. Numbers are big-endian.
-use Rattle.std.specs.Prelude.{◌≡◌, ◌≢◌, ◌⊎◌, ℕ, List, [], ◌∷◌, ◌++◌, codes}
+use Rattle.std.specs.Prelude.{◌≡◌, ◌≢◌, ◌⊎◌, ℕ, ◌≤◌, List, [], ◌∷◌, ◌++◌, codes}
 use Rattle.std.specs.Int.{w32, w64, to_be_bytes}
+use Rattle.bus_types.specs.declared.limits.TheConstants.{MAX_SCN}
 use Rattle.bus_types.specs.Window.{Span, span_size}
+use Rattle.bus_types.specs.Timeline.{IsTimelineFrom}
 use Rattle.event_codec.specs.Bytes.{window_bytes}
 
 -- a record: the length of a window, and the window in full
@@ -35,6 +37,12 @@ IsFree = Ends []
 -- a segment in use, with these windows behind a floor
 abbrev pub StandsFor : ℕ → List Span → List ℕ → Type 0
 StandsFor floor ws = Ends (whole floor ws)
+
+-- the bytes are a segment in use with these windows, which follow its floor and each other
+pub record HoldsInUse (from : ℕ) (ws : List Span) (bytes : List ℕ) : Type 0 where
+  pub low : from ≤ MAX_SCN
+  pub chained : IsTimelineFrom from ws
+  pub ends : StandsFor from ws bytes
 
 -- the bytes end behind a front, or behind the same front with a body more, each part of it behind an open gate
 abbrev pub EndsEither : List ℕ → List ℕ → List ℕ → Type 0

@@ -1,3 +1,10 @@
 pub mod Image
 pub mod Gate
 pub mod Segment
+pub mod Reading
+pub mod Looking
+pub mod Faults
+pub mod Scanning
+pub mod Heading
+pub mod Opening
+pub mod Lookup

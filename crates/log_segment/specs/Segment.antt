@@ -11,7 +11,7 @@ use Rattle.bus_stores.specs.Log.{OnLogFailed}
 use Rattle.log_disk.specs.Disk.{DiskState, LeavesOnly}
 use Rattle.log_segment.specs.declared.segment.Entry.{Entry}
 use Rattle.log_segment.specs.declared.segment.TheConstants.{MAX_USED}
-use Rattle.log_segment.specs.Image.{whole, IsFree, StandsFor}
+use Rattle.log_segment.specs.Image.{whole, IsFree, HoldsInUse}
 use Rattle.log_segment.specs.Gate.{RestsBehind}
 
 -- ---- what it tells
@@ -104,14 +104,14 @@ Becomes done old new (Err e) = new ≡ old
 pub record BeginsBehind (prev : ℕ) (old new : SegmentState) (result : Result Unit Failed) : Type 0 where
   pub counts : CountsFaults old new result
   pub numbers : Becomes (numbers_of old.numbers.lost prev []) old.numbers new.numbers result
-  pub crash : StandsFree old → LeavesOnly old.disk.clock new.disk.clock (λ c. IsFree c ⊎ StandsFor prev [] c)
+  pub crash : StandsFree old → LeavesOnly old.disk.clock new.disk.clock (λ c. IsFree c ⊎ HoldsInUse prev [] c)
   pub done : OnOk result (StandsFree old → Stands prev [] new)
 
 -- it freed a segment: a crash at any moment leaves it as it was, or free
 pub record Frees (old new : SegmentState) (result : Result Unit Failed) : Type 0 where
   pub counts : CountsFaults old new result
   pub numbers : Becomes (free_numbers old.numbers.lost) old.numbers new.numbers result
-  pub crash : (from : ℕ) (ws : List Span) → Stands from ws old → LeavesOnly old.disk.clock new.disk.clock (λ c. StandsFor from ws c ⊎ IsFree c)
+  pub crash : (from : ℕ) (ws : List Span) → Stands from ws old → LeavesOnly old.disk.clock new.disk.clock (λ c. HoldsInUse from ws c ⊎ IsFree c)
   pub done : OnOk result ((from : ℕ) (ws : List Span) → Stands from ws old → StandsFree new)
 
 -- no room is left for a window of so many bytes
@@ -134,7 +134,7 @@ pub record Appends (w : Span) (old new : SegmentState) (result : Result Unit Log
   pub faults : fault_count old ≤ fault_count new
   pub failed : OnLogFailed result (Rose (fault_count old) (fault_count new))
   pub leaves : AppendLeaves w old new result
-  pub crash : (from : ℕ) (ws : List Span) → Stands from ws old → LeavesOnly old.disk.clock new.disk.clock (λ c. StandsFor from ws c ⊎ StandsFor from (ws ++ w ∷ []) c)
+  pub crash : (from : ℕ) (ws : List Span) → Stands from ws old → LeavesOnly old.disk.clock new.disk.clock (λ c. HoldsInUse from ws c ⊎ HoldsInUse from (ws ++ w ∷ []) c)
   pub done : OnOk result ((from : ℕ) (ws : List Span) → Stands from ws old → Stands from (ws ++ w ∷ []) new)
 
 -- where a call answers `Full` or `NoMemory`

@@ -3,8 +3,16 @@
 //! to a log, and rely on what a crash at any moment leaves (`specs/Segment.antt`).
 #![tactic(auto)]
 
+mod ahead;
+mod fetch;
 mod gate;
+mod head;
+mod laws;
+mod opening;
+mod read;
 mod record;
+mod scan;
 mod segment;
 
-pub use segment::{MAX_USED, Segment};
+pub use laws::a_segment_is_read_in_one_way;
+pub use segment::{MAX_USED, Segment, SegmentFault};

@@ -1,12 +1,17 @@
 ghost use Rattle.std.specs.Prelude.{◌≡◌, ◌+◌, ◌≤◌, ◌<◌, ◌++◌, ◌∷◌, [], length, true, false, IfSome, IfOk, OnOk, vec_capacity};
 ghost use Rattle.bus_types.specs.declared.limits.TheConstants.{MAX_SCN};
 ghost use Rattle.log_segment.specs.Image.{head_bytes, record_bytes};
+ghost use Rattle.log_segment.specs.Lookup.{ReadsNext};
+ghost use Rattle.log_segment.specs.Opening.{Opens, Finds};
 ghost use Rattle.log_segment.specs.Segment.{told, IsSegment, numbers_of, free_numbers, BeginsBehind, Frees, Appends, OnRefused, Formats, with_window};
 
-use crate::gate::{cut_lasting, put_behind, write_lasting};
+use crate::ahead::ReadFault;
+use crate::fetch::{entry_after, fetch};
+use crate::gate::{close_first, cut_lasting, put_behind};
+use crate::opening::read_segment;
 use crate::record::{head_text, record_text};
 use bus_stores::LogFault;
-use bus_types::{Failed, NoMemory, Window};
+use bus_types::{Count, Failed, NoMemory, Window};
 use event_codec::write_window;
 use log_disk::Disk;
 use std::alloc::Global;
@@ -21,14 +26,25 @@ const RECORD: u64 = 5;
 // The bytes of a segment without a window: its gate, the tag, an SCN, and the gate of the first record.
 const HEAD: u64 = 18;
 
-// A gate that isn't open.
-const CLOSED: u8 = 0;
-
 // A window of a segment: its SCN, and the place of its record's length.
 #[derive(Clone, Copy, Debug, Drop)]
-struct Entry {
-    scn: u64,
-    place: u64,
+pub(crate) struct Entry {
+    pub scn: u64,
+    pub place: u64,
+}
+
+/// Why a segment was not opened.
+#[derive(Clone, Copy, Debug, PartialEq, Eq)]
+pub enum SegmentFault {
+    /// The disk holds no segment.
+    Bad {
+        /// The place of the first byte that is missing or wrong; of a record at fault that of its length.
+        place: u64,
+    },
+    /// The disk failed. It comes only where its count of faults rose.
+    Failed,
+    /// Memory ran out.
+    NoMemory,
 }
 
 /// A segment of a log on a disk: windows that follow a floor and each other. It keeps 16 bytes of memory a window.
@@ -43,7 +59,7 @@ pub struct Segment<D: Disk> {
     floor: u64,
     high: u64,
     index: Vec<Entry>,
-    lost: u64,
+    lost: Count,
 }
 
 impl<D: Disk> Model for Segment<D> {
@@ -92,6 +108,46 @@ impl<D: Disk> Segment<D> {
         ensures segment { IsSegment (told D.state self.now) }
     {
         self.high
+    }
+
+    // As `open`, seen from what is read.
+    fn read(alloc: Global, disk: D) -> Result<Segment<D>, (SegmentFault, D)>
+        ensures { Opens D.state disk result }
+    {
+        let mut disk = disk;
+        match read_segment(alloc, &mut disk) {
+            Ok(Some(scan)) => Ok(Segment {
+                disk,
+                used: scan.gate + 1,
+                in_use: true,
+                floor: scan.floor,
+                high: scan.high,
+                index: scan.index,
+                lost: Count::zero(),
+            }),
+            Ok(None) => Ok(Segment {
+                disk,
+                used: 1,
+                in_use: false,
+                floor: 0,
+                high: 0,
+                index: Vec::new(alloc),
+                lost: Count::zero(),
+            }),
+            Err(fault) => Err((fault, disk)),
+        }
+    }
+
+    /// Takes a disk and reads its segment, once from its front to the gate that ends it, in pieces of 65,536 bytes. What was
+    /// written to the disk is made lasting first, so that a crash leaves what is told.
+    ///
+    /// `Bad` comes exactly where the disk holds no segment, with the place of the first fault. `Failed` comes only where the
+    /// disk's count of faults rose. The disk is handed back with the fault.
+    pub fn open(alloc: Global, disk: D) -> Result<Segment<D>, (SegmentFault, D)>
+        ensures opens { Opens D.state disk result }
+        ensures finds { IfOk result (λ segment. IfSome (D.state disk).seen (λ bytes. Finds bytes (told D.state segment))) }
+    {
+        Segment::read(alloc, disk)
     }
 
     /// Its disk, as it stands.
@@ -149,7 +205,7 @@ impl<D: Disk> Segment<D> {
         requires { self.old.numbers.in_use ≡ true }
         ensures { Frees (told D.state self.old) (told D.state self.new) result }
     {
-        match write_lasting(&mut self.disk, 0, &[CLOSED]) {
+        match close_first(&mut self.disk) {
             Ok(()) => {
                 self.note_freed();
                 Ok(())
@@ -164,7 +220,7 @@ impl<D: Disk> Segment<D> {
     pub fn format(disk: &mut D) -> Result<(), Failed>
         ensures { Formats (D.state disk.old) (D.state disk.new) result }
     {
-        match write_lasting(disk, 0, &[CLOSED]) {
+        match close_first(disk) {
             Ok(()) => cut_lasting(disk, 1),
             Err(fault) => Err(fault),
         }
@@ -201,6 +257,28 @@ impl<D: Disk> Segment<D> {
                 Ok(())
             }
             Err(Failed) => Err(LogFault::Failed),
+        }
+    }
+
+    /// A copy of the oldest window behind an SCN, and `None` exactly where the segment has none. It reads the window's record
+    /// and no other.
+    ///
+    /// `Failed` comes only where the count of faults rose: the disk failed, or it gave something else in the window's place.
+    /// The segment stays as it is, also after a fault.
+    pub fn next(&mut self, alloc: Global, scn: u64) -> Result<Option<Window>, LogFault>
+        ensures { ReadsNext scn (told D.state self.old) (told D.state self.new) result }
+    {
+        let Some((prev, entry)) = entry_after(self.floor, &self.index, scn) else {
+            return Ok(None);
+        };
+        match fetch(alloc, &mut self.disk, self.used, entry, prev) {
+            Ok(Some(window)) => Ok(Some(window)),
+            Ok(None) => {
+                self.lost.raise();
+                Err(LogFault::Failed)
+            }
+            Err(ReadFault::Failed) => Err(LogFault::Failed),
+            Err(ReadFault::NoMemory) => Err(LogFault::NoMemory),
         }
     }
 }

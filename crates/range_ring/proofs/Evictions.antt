@@ -1,13 +1,13 @@
 -- How many windows of a timeline are evicted, as far as the ring's rule needs it.
-use Rattle.std.proofs.Common.{◌≡◌, ℕ, suc, ◌+◌, ◌<◌, ◌≤◌, inl, inr, true, List, [], ◌∷◌, ◌++◌, length, length-append, map, sym, subst, ◌∙◌, arith}
+use Rattle.std.proofs.Common.{◌≡◌, ℕ, ◌<◌, ◌≤◌, inl, inr, List, [], ◌∷◌, ◌++◌, length, arith}
 use Rattle.std.specs.List.{All}
 use Rattle.std.proofs.lemmas.Bool.{cases_Bool}
 use Rattle.std.proofs.lemmas.List.{length-map}
 use Rattle.std.proofs.lemmas.List.Elements.{All-nil, All-cons}
 use Rattle.bus_types.specs.Window.{Span, span_size}
 use Rattle.bus_types.specs.Timeline.{IsTimeline, IsTimelineFrom}
-use Rattle.bus_types.specs.Relay.{Room, IsRoom, sizes, sum_of, has_room, surplus}
-use Rattle.bus_types.proofs.Floors.{roomy_from, full_front, surplus_none, surplus_first, evicted_none, evicted_rises, evicted_below}
+use Rattle.bus_types.specs.Relay.{Room, IsRoom, sizes, has_room, surplus}
+use Rattle.bus_types.proofs.Floors.{roomy_from, surplus_none, surplus_first, evicted_none, evicted_rises, evicted_below}
 use Rattle.range_ring.specs.declared.words.Limits.{Limits}
 use Rattle.range_ring.specs.Words.{room_of, evicted_at}
 

@@ -1,11 +1,11 @@
 -- The six kinds of step keep the rule.
-use Rattle.std.proofs.Common.{◌≡◌, ◌≢◌, ℕ, zero, suc, ◌+◌, ◌<◌, ◌≤◌, min, max, ◌⊎◌, inl, inr, ⊎_elim, true, false, Bool, List, [], ◌∷◌, ◌++◌, length, Option, Some, None, refl, sym, ap, subst, ◌∙◌, arith}
+use Rattle.std.proofs.Common.{◌≡◌, ◌≢◌, ℕ, zero, suc, ◌+◌, ◌<◌, ◌≤◌, min, max, ⊎_elim, true, false, List, [], ◌∷◌, ◌++◌, length, Option, Some, None, refl, sym, ap, subst, ◌∙◌, arith}
 use Rattle.std.specs.Prelude.{slice_index, slice_set}
-use Rattle.std.proofs.Math.Nat.{max-le, le-max_left, le-max_right, max-eq_left, max-eq_right, min-eq_left, le-min}
+use Rattle.std.proofs.Math.Nat.{max-le, le-max_left, max-eq_left, max-eq_right, min-eq_left, le-min}
 use Rattle.std.proofs.lemmas.Bool.{both_ways}
 use mathlib.Core.Option.{some, none, some-injective, some-ne-none}
 use lib.ListN.{get_elem?}
-use Rattle.atomic_table.specs.Table.{State, Me, Step, step, Act, keeps, Valid, carried_after, Allows, Splits, Joins, opening}
+use Rattle.atomic_table.specs.Table.{State, Me, step, Act, keeps, Valid, carried_after, Allows, Splits, Joins, opening}
 use Rattle.atomic_table.proofs.Lists.{at_set, at_snoc, set_again}
 use Rattle.bus_types.specs.Window.{Span}
 use Rattle.bus_types.specs.Timeline.{IsTold}
@@ -54,9 +54,9 @@ each_first limits zero v there =
     subst (λ (u : View). Agrees 0 0 0 0 u) (some-injective (feeding limits) v there) (record { feeds = λ busy. (refl, refl, refl); evicted = omega arith; published = omega arith })
 each_first limits (suc number) v there = absurd (some-ne-none v (sym there))
 
-pub begins : (limits : Limits) (told : Option (List Span)) (slots : List ℕ) → IsRoom (room_of limits) → Rule limits told (opening (0 ∷ 0 ∷ []) slots (feeding limits))
-begins limits None slots room = record { floor = 0; tail = 0; feeder = 0; words_are = refl; lawful = omega arith; each = each_first limits }
-begins limits (Some ws) slots room = record {
+pub begins : (limits : Limits) (told : Option (List Span)) (slots : List ℕ) → Rule limits told (opening (0 ∷ 0 ∷ []) slots (feeding limits))
+begins limits None slots = record { floor = 0; tail = 0; feeder = 0; words_are = refl; lawful = omega arith; each = each_first limits }
+begins limits (Some ws) slots = record {
   floor = 0;
   tail = 0;
   feeder = 0;
@@ -93,6 +93,11 @@ tail_lawful : (limits : Limits) (told : Option (List Span)) (evicted floor tail 
 tail_lawful limits None evicted floor tail le h = tt
 tail_lawful limits (Some ws) evicted floor tail le h = let most = h.most in (h.end, omega arith)
 
+-- no more were evicted than published
+words_order : (limits : Limits) (told : Option (List Span)) (floor tail : ℕ) → WordsStand limits told floor tail → floor ≤ tail
+words_order limits None floor tail h = h
+words_order limits (Some ws) floor tail h = h.order
+
 pub loads_tail : (limits : Limits) (told : Option (List Span)) (slots id : ℕ) (me : Me ℕ View) → me.0.limits ≡ limits → Allows (Rule limits told) slots id me 1 (λ n. n) (tail_seen told (step slots 1 0 0 none) me)
 loads_tail limits told slots id me same s h homes there small =
     let mine = h.each id me.0 there in
@@ -113,7 +118,7 @@ loads_tail limits told slots id me same s h homes there small =
     let lawful : IsSeen me.0.limits told me.0.evicted h.tail = subst (λ (l : Limits). IsSeen l told me.0.evicted h.tail) (sym same) (tail_lawful limits told me.0.evicted h.floor h.tail mine.evicted h.lawful) in
     subst (λ (ws : List ℕ). (w : View) × (a : Act ℕ) × Valid s.homes me.1 a × Kept limits told (slice_set ws 1 (slice_index ws 1)) (slice_set s.views id w) × tail_seen told (step slots 1 0 0 none) me (slice_index ws 1) (w, carried_after me.1 a))
     (sym h.words_are)
-    (seen, keeps, tt, after, (refl, mine.published, lawful))
+    (seen, keeps, tt, after, (refl, mine.published, (let e = mine.evicted in omega (arith, words_order limits told h.floor h.tail h.lawful)), lawful))
 
 -- ---- seats
 

@@ -1,2 +1,4 @@
 pub mod Words
 pub mod Belonging
+pub mod Stocked
+pub mod Answering

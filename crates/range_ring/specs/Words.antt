@@ -66,7 +66,7 @@ floor_seen s old found new = (new ≡ (record old.0 { evicted = found; floor_loa
 
 -- a load of TAIL
 abbrev pub tail_seen : Option (List Span) → Step ℕ → Me ℕ View → ℕ → Me ℕ View → Type 0
-tail_seen told s old found new = (new ≡ (record old.0 { published = found; tail_loads = old.0.tail_loads + 1 }, old.1)) × (old.0.published ≤ found) × IsSeen old.0.limits told old.0.evicted found
+tail_seen told s old found new = (new ≡ (record old.0 { published = found; tail_loads = old.0.tail_loads + 1 }, old.1)) × (old.0.published ≤ found) × (old.0.evicted ≤ found) × IsSeen old.0.limits told old.0.evicted found
 
 -- a raise of FLOOR, and one of TAIL
 abbrev pub floor_raised : Step ℕ → Me ℕ View → ℕ → Me ℕ View → Type 0

@@ -1,8 +1,27 @@
-//! The shared ring.
+//! A shared ring: one feeder publishes a timeline's windows, and many passes read them, in any threads. It stands on the
+//! cells of `ring_cells` and on the kit's `atomic_table`, whose two words say how many windows were evicted and published.
+//! The layers above make a ring by `make_ring`; contracts see numbers of windows, and which ring each part belongs to.
 #![tactic(auto)]
 
+mod claim;
+mod feeder;
+mod first;
+mod laws;
+mod make;
+mod numbers;
+mod pass;
+mod placed;
 mod plays;
+mod ring;
+mod sizes;
 mod steps;
+mod stock;
 mod words;
 
+pub use feeder::Feeder;
+pub use laws::a_ring_answers_by_positions;
+pub use make::make_ring;
+pub use numbers::Numbers;
+pub use pass::{Note, Pass, Passes};
+pub use ring::Ring;
 pub use words::Limits;

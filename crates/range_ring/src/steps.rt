@@ -1,9 +1,10 @@
 //! The six kinds of step at the words. What stands above them makes no other.
-ghost use Rattle.std.specs.Prelude.{◌≡◌, ◌≤◌, ◌+◌, ◌^◌, ◌<◌, max, true, []};
+ghost use Rattle.std.specs.Prelude.{◌≡◌, ◌≤◌, ◌+◌, ◌<◌, ◌^◌, max, true, []};
 ghost use Rattle.bus_types.specs.Relay.{IsRoom};
 ghost use Rattle.range_ring.specs.Words.{room_of, IsSeen, copied, met, MayEvict, MayPublish};
 ghost use Rattle.range_ring.specs.Belonging.{Sits};
 
+use crate::placed::Placed;
 use crate::plays::{Copied, LoadFloor, LoadTail, Met, RaiseFloor, RaiseTail};
 use crate::words::{FLOOR, Place, TAIL, Words};
 use bus_types::Timeline;
@@ -24,6 +25,7 @@ pub(crate) fn load_tail<T: Timeline>(words: &Words<T>, place: &mut Place) -> u64
     ensures sits { Sits (record { table = words.now.table_id; limits = words.now.key }) place.new.table_id place.new.me }
     ensures seen { place.new.me ≡ (record place.old.me.0 { published = result; tail_loads = place.old.me.0.tail_loads + 1 }, []) }
     ensures later { place.old.me.0.published ≤ result }
+    ensures order { place.old.me.0.evicted ≤ result }
     ensures lawful { IsSeen words.now.key T.told place.old.me.0.evicted result }
 {
     words.load::<LoadTail<T>>(place, TAIL)
@@ -62,15 +64,16 @@ pub(crate) fn raise_floor<T: Timeline>(words: &Words<T>, place: &mut Place, evic
     words.fetch_max::<RaiseFloor>(place, FLOOR, evicted);
 }
 
-/// The feeder raises TAIL by one, to so many.
-pub(crate) fn raise_tail<T: Timeline>(words: &Words<T>, place: &mut Place, published: u64)
+/// The feeder raises TAIL by one, over the window whose entry was put.
+pub(crate) fn raise_tail<T: Timeline>(words: &Words<T>, place: &mut Place, placed: Placed)
     requires place_sits { Sits (record { table = words.now.table_id; limits = words.now.key }) place.old.table_id place.old.me }
     requires room { IsRoom (room_of words.now.key) }
     requires feeds { place.old.me.0.feeds ≡ true }
-    requires by_one { published ≡ place.old.me.0.published + 1 }
+    requires next { placed.position ≡ place.old.me.0.published }
+    requires bound { placed.position < 2 ^ 63 }
     requires may { MayPublish words.now.key T.told place.old.me.0 }
     ensures sits { Sits (record { table = words.now.table_id; limits = words.now.key }) place.new.table_id place.new.me }
-    ensures raised { place.new.me ≡ (record place.old.me.0 { published = published }, []) }
+    ensures raised { place.new.me ≡ (record place.old.me.0 { published = place.old.me.0.published + 1 }, []) }
 {
-    words.fetch_max::<RaiseTail>(place, TAIL, published);
+    words.fetch_max::<RaiseTail>(place, TAIL, placed.published());
 }

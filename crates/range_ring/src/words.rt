@@ -1,3 +1,5 @@
+ghost use Rattle.std.specs.Prelude.{◌≡◌, ◌&&◌, nat_le};
+
 use atomic_table::{Seat, Shared, Table, TableRule};
 use bus_types::Timeline;
 use std::alloc::Global;
@@ -10,6 +12,15 @@ pub struct Limits {
     pub bytes: u64,
     /// From 1 to 65,536.
     pub windows: u32,
+}
+
+impl Limits {
+    /// Whether there is room for so many windows and bytes.
+    pub(crate) fn have_room(&self, windows: u64, bytes: u64) -> bool
+        ensures { result ≡ (nat_le windows self.now.windows && nat_le bytes self.now.bytes) }
+    {
+        windows <= self.windows as u64 && bytes <= self.bytes
+    }
 }
 
 /// What a seat at the words knows: the greatest numbers that it has seen, how often it loaded each word, whether it is the

@@ -60,7 +60,8 @@ impl<T: Timeline> Entry<T> {
 
     /// The window's bytes.
     pub fn bytes(&self) -> &[u8]
-        ensures { result.now ≡ self.now.bytes }
+        ensures value { result.now ≡ self.now.bytes }
+        ensures fits { IsEntry T.told self.now }
     {
         &self.bytes
     }

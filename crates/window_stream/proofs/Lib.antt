@@ -1,6 +1,5 @@
 pub mod Windows
 pub mod Changes
-pub mod Views
 pub mod Cut
 pub mod Scans
 pub mod Splits

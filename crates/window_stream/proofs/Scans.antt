@@ -8,9 +8,11 @@ use Rattle.window_stream.specs.declared.scan.Scan.{Scan}
 use Rattle.event_codec.specs.declared.item.Item.TheVariants as items
 use Rattle.event_codec.specs.Items.{since_of, open_in, Shows}
 use Rattle.window_stream.specs.Scan.{IsScan, front_at, ShowsEvent, Moves}
-use Rattle.window_stream.specs.Decode.{IsEvents, AreEvents, AreEventsOf}
+use Rattle.window_stream.specs.Decode.{AreEventsOf}
+use Rattle.event_codec.specs.Parsing.{events_of, AreEvents, HaveEvents}
+use Rattle.event_codec.proofs.Parsings.{events_spelled, events_within}
 use Rattle.event_codec.specs.Streams.{Comes}
-use Rattle.window_stream.proofs.Changes.{same_changes}
+use Rattle.window_stream.proofs.Changes.{changes_again}
 use Rattle.event_codec.proofs.Begun.{fits, small, EventMoves, event_moves, MarkMoves, mark_moves, begun_none}
 use Rattle.window_stream.proofs.Windows.{moves_one}
 
@@ -27,19 +29,18 @@ module _ (scan : Scan) (is : IsScan scan) where
   pub mark_moved : (n p : ℕ) → Shows (items.Mark n p) (front_at scan) → MarkMoves (since_of scan.follows) (open_in scan.events) scan.rest.now is.begun.changes n p
   mark_moved n p found = mark_moves (since_of scan.follows) (open_in scan.events) scan.rest.now n p is.bytes is.begun found
 
-  mark_are : (n p : ℕ) → Shows (items.Mark n p) (front_at scan) → AreEvents n is.begun.changes (take scan.events.size scan.rest.now)
-  mark_are n p found =
+  mark_are : (n p : ℕ) → Shows (items.Mark n p) (front_at scan) → (events : List ℕ) → events ≡ take scan.events.size scan.rest.now → AreEvents (events_of n is.begun.changes) events
+  mark_are n p found events same =
       let moved = mark_moved n p found in
       let within = moved.comes.within in
-      record { positive = λ _. omega (arith, within.prev); scn = within.scn; changes = within.changes; spelled = moved.events }
+      record { within = events_within n is.begun.changes (omega (arith, within.prev)) within.scn within.changes; spelled = same ∙ moved.events ∙ events_spelled n is.begun.changes }
 
   -- the changes that were decoded are those of the window
   pub mark_changes : (n p : ℕ) → Shows (items.Mark n p) (front_at scan) → (cs : List Change) (events : List ℕ) → events ≡ take scan.events.size scan.rest.now → AreEventsOf cs events → cs ≡ is.begun.changes
-  mark_changes n p found cs events same are =
-      same_changes are.0 n cs is.begun.changes events are.1 (subst (λ (x : List ℕ). AreEvents n is.begun.changes x) (sym same) (mark_are n p found))
+  mark_changes n p found cs events same are = are (events_of n is.begun.changes) (mark_are n p found events same) ∙ changes_again n is.begun.changes
 
-  pub mark_events : (n p : ℕ) → Shows (items.Mark n p) (front_at scan) → (events : List ℕ) → events ≡ take scan.events.size scan.rest.now → IsEvents events
-  mark_events n p found events same = (n, is.begun.changes, subst (λ (x : List ℕ). AreEvents n is.begun.changes x) (sym same) (mark_are n p found))
+  pub mark_events : (n p : ℕ) → Shows (items.Mark n p) (front_at scan) → (events : List ℕ) → events ≡ take scan.events.size scan.rest.now → HaveEvents events
+  mark_events n p found events same = (events_of n is.begun.changes, mark_are n p found events same)
 
   pub mark_window : (n p : ℕ) → Shows (items.Mark n p) (front_at scan) → (cs : List Change) (events : List ℕ) → events ≡ take scan.events.size scan.rest.now → AreEventsOf cs events
       → Comes (since_of scan.follows) (record { scn = n; prev = p; changes = cs })

@@ -5,6 +5,8 @@
 #[cfg(test)]
 mod buffer;
 #[cfg(test)]
+mod callbacks;
+#[cfg(test)]
 mod codec;
 #[cfg(test)]
 mod filter;
@@ -18,3 +20,5 @@ mod splitter;
 mod streams;
 #[cfg(test)]
 mod types;
+#[cfg(test)]
+mod wire;

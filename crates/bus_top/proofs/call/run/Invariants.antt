@@ -13,4 +13,4 @@ invariant-loop-status g l = record {
 }
 
 abbrev pub decreases-loop-status : goal.decreases-loop-status
-decreases-loop-status g l = longest_input - (l.session.place.used + length l.session.pending.items)
+decreases-loop-status g l = longest_input - (l.session.lines.used + length l.session.lines.come)

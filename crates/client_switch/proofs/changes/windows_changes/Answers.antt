@@ -1,20 +1,21 @@
-use Rattle.std.proofs.Common.{[]}
-use Rattle.client_switch.proofs.Items.{goes_none, goes_on, goes_all, not_empty, empty}
+use Rattle.std.proofs.Common.{◌++◌, List, ap, ◌∙◌}
+use Rattle.bus_types.specs.declared.change.Change.{Change}
+use Rattle.event_codec.proofs.Taking.{others_are, windows_less}
+use Rattle.client_switch.specs.Moves.{changes_of}
+use Rattle.client_switch.proofs.Items.{window_more, window_end}
 use Rattle.client_switch.proofs.changes.windows_changes.Goals as goal
 
-pub loop-rest-init : goal.loop-rest-init
-loop-rest-init c windows are = goes_none windows c.args.bytes.now c.new-changes.result.items are c.new-changes.ensures.items
+pub loop-scn-init : goal.loop-scn-init
+loop-scn-init c = ap (λ (x : List Change). x ++ changes_of c.again-left.result) c.new-changes.ensures.items ∙ ap changes_of c.again-left.ensures
 
-pub take_item-requires-clause-windows : goal.take_item-requires-clause-windows
-take_item-requires-clause-windows c = let goes = c.loop-rest.invariant c.requires.0 c.requires.1 in (goes.left, goes.are)
+pub loop-scn-preserved : goal.loop-scn-preserved
+loop-scn-preserved c =
+    window_more c.loop-scn.changes.items c.take_events.new.changes.items c.args.windows.now c.loop-scn.left c.mark.new.self c.in_ok-take_events.ensures.taken
+    (others_are c.loop-scn.left c.take_events.new.left c.mark.new.self c.in_ok-take_events.ensures.behind c.mark.ensures.behind) c.loop-scn.invariant
 
-pub take_item-requires-clause-some : goal.take_item-requires-clause-some
-take_item-requires-clause-some c = not_empty c.is_empty.result c.loop-rest.rest.now c.is_empty.ensures c.loop-rest-test.true
-
-pub loop-rest-preserved : goal.loop-rest-preserved
-loop-rest-preserved c windows are =
-    let goes = c.loop-rest.invariant windows are in
-    goes_on windows [] c.loop-rest.changes.items c.take_item.new.changes.items c.loop-rest.rest.now _ goes (c.in_ok-rest.ensures.goes goes.left goes.are)
+pub loop-scn-smaller : goal.loop-scn-smaller
+loop-scn-smaller c =
+    windows_less c.loop-scn.left c.mark.new.self c.in-Some._scn c.in-Some.ensures (others_are c.loop-scn.left c.take_events.new.left c.mark.new.self c.in_ok-take_events.ensures.behind c.mark.ensures.behind)
 
 pub returns : goal.returns
-returns c windows are = goes_all windows c.loop-rest.rest.now c.loop-rest.changes.items (c.loop-rest.invariant windows are) (empty c.is_empty.result c.loop-rest.rest.now c.is_empty.ensures c.loop-rest-test.false)
+returns c = window_end c.loop-scn.changes.items c.args.windows.now c.loop-scn.left c.in_default.ensures c.loop-scn.invariant

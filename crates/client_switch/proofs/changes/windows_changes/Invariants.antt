@@ -1,11 +1,9 @@
-use Rattle.std.proofs.Common.{List, [], length}
-use Rattle.bus_types.specs.Window.{Span}
-use Rattle.dispatcher.specs.Telling.{AreAll}
-use Rattle.client_switch.specs.Turning.{Goes}
+use Rattle.std.proofs.Common.{◌≡◌, ◌++◌, length}
+use Rattle.client_switch.specs.Moves.{changes_of}
 use Rattle.client_switch.proofs.changes.windows_changes.Given as goal
 
-abbrev pub invariant-loop-rest : goal.invariant-loop-rest
-invariant-loop-rest l = (windows : List Span) → AreAll windows l.bytes → Goes windows [] l.rest l.changes.items
+abbrev pub invariant-loop-scn : goal.invariant-loop-scn
+invariant-loop-scn l = l.changes.items ++ changes_of l.left ≡ changes_of l.windows
 
-abbrev pub decreases-loop-rest : goal.decreases-loop-rest
-decreases-loop-rest l = length l.rest
+abbrev pub decreases-loop-scn : goal.decreases-loop-scn
+decreases-loop-scn l = length l.left

@@ -1,4 +1,4 @@
-use Rattle.std.proofs.Common.{arith}
+use Rattle.std.proofs.Common.{◌+◌, ap, ◌∙◌, arith}
 use Rattle.range_ring.proofs.Moves.{raises_tail}
 use Rattle.range_ring.proofs.steps.raise_tail.Goals as goal
 
@@ -6,4 +6,4 @@ pub fetch_max-requires : goal.fetch_max-requires
 fetch_max-requires g c =
     let sits = c.requires.place_sits in
     let two = sits.words in
-    (sits.same, omega arith, raises_tail c.args.words.now.key g.T.Timeline.told _ _ _ _ c.requires.room g.T.Timeline.lawful c.requires.feeds c.requires.by_one c.requires.may)
+    (sits.same, omega arith, raises_tail c.args.words.now.key g.T.Timeline.told _ _ _ _ c.requires.room g.T.Timeline.lawful c.requires.feeds (c.published.ensures ∙ ap (λ n. n + 1) c.requires.next) c.requires.may)

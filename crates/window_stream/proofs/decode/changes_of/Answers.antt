@@ -1,15 +1,14 @@
+use Rattle.event_codec.specs.View.{event_of}
+use Rattle.window_stream.proofs.Changes.{none_decoded, more_decoded, all_decoded}
 use Rattle.window_stream.proofs.decode.changes_of.Goals as goal
-use Rattle.window_stream.proofs.Changes.{begins_with, decoded_more, decoded_all, not_empty, empty}
 
-pub take_change-requires : goal.take_change-requires
-take_change-requires c =
-    let decoded = c.loop-rest.invariant in
-    begins_with decoded.first decoded.left c.loop-rest.rest.now decoded.behind (not_empty c.is_empty.result c.loop-rest.rest.now c.is_empty.ensures c.loop-rest-test.true)
+pub loop-event-init : goal.loop-event-init
+loop-event-init c = λ events are. none_decoded c.in_ok-changes.changes.items c.of-left.result events c.in_ok-changes.ensures.items (c.of-left.ensures events are)
 
-pub loop-rest-preserved : goal.loop-rest-preserved
-loop-rest-preserved c =
-    decoded_more c.args.bytes.now c.loop-rest.rest.now c.loop-rest.changes.items c.in_ok-rest.rest.now c.take_change.new.changes.items c.loop-rest.invariant
-    (not_empty c.is_empty.result c.loop-rest.rest.now c.is_empty.ensures c.loop-rest-test.true) c.in_ok-rest.ensures
+pub loop-event-preserved : goal.loop-event-preserved
+loop-event-preserved c = λ events are.
+    more_decoded c.loop-event.changes.items c.push.new.self.items c.in_ok-change.field-0 (event_of c.in-Some.event) c.loop-event.left c.next.new.self events c.in_ok-push.ensures.items c.in_ok-change.ensures.ok c.in-Some.ensures.event
+    (c.loop-event.invariant events are)
 
 pub returns : goal.returns
-returns c = decoded_all c.args.bytes.now c.loop-rest.rest.now c.loop-rest.changes.items c.loop-rest.invariant (empty c.is_empty.result c.loop-rest.rest.now c.is_empty.ensures c.loop-rest-test.false)
+returns c = λ events are. all_decoded c.loop-event.changes.items c.loop-event.left events c.in_default.ensures.event.0 (c.loop-event.invariant events are)

@@ -1,9 +1,11 @@
-use Rattle.std.proofs.Common.{length}
-use Rattle.window_stream.proofs.Changes.{Decoded}
+use Rattle.std.proofs.Common.{◌≡◌, ◌++◌, List, length}
+use Rattle.event_codec.specs.Bytes.{Event}
+use Rattle.event_codec.specs.Parsing.{AreEvents}
+use Rattle.window_stream.specs.Decode.{changes_in}
 use Rattle.window_stream.proofs.decode.changes_of.Given as goal
 
-abbrev pub invariant-loop-rest : goal.invariant-loop-rest
-invariant-loop-rest l = Decoded l.bytes l.rest l.changes.items
+abbrev pub invariant-loop-event : goal.invariant-loop-event
+invariant-loop-event l = (events : List Event) → AreEvents events l.bytes → l.changes.items ++ changes_in l.left ≡ changes_in events
 
-abbrev pub decreases-loop-rest : goal.decreases-loop-rest
-decreases-loop-rest l = length l.rest
+abbrev pub decreases-loop-event : goal.decreases-loop-event
+decreases-loop-event l = length l.left

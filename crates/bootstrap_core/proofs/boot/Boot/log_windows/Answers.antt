@@ -1,28 +1,27 @@
-use Rattle.std.proofs.Common.{List, IfSome, subst}
+use Rattle.std.proofs.Common.{IfSome, subst}
 use Rattle.bus_stores.specs.Log.{at_rest}
-use Rattle.bootstrap_core.proofs.CrashBounds.{brings_none}
-use Rattle.bus_types.specs.Window.{Span}
 use Rattle.bus_types.proofs.Stretches.{timeline-take}
 use Rattle.bootstrap_core.specs.Boot.{told, BootParts, BootState}
-use Rattle.bootstrap_core.specs.Logging.{AreWindowsBehind, IsChained}
+use Rattle.bootstrap_core.proofs.CrashBounds.{brings_none}
 use Rattle.bootstrap_core.proofs.ReplyWindows.{run_follows}
 use Rattle.bootstrap_core.proofs.Appending.{logs_takes}
 use Rattle.bootstrap_core.proofs.boot.Boot.log_windows.Goals as goal
 
 pub log_each-requires : goal.log_each-requires
 log_each-requires g c =
-    let windows = c.in_ok-windows.windows.items in
-    let chained : IsChained c.args.high windows = c.in_ok-windows.ensures.windows.1 in
-    rw (c.first_of.ensures, c.deref.ensures.value, ← c.requires.high)
-    (timeline-take c.args.high c.args.n windows (run_follows c.args.high windows c.in_ok-windows.ensures.windows.0.run chained))
+    let ws = c.requires.windows.0 in
+    let are = c.requires.windows.1 in
+    let given = c.in_ok-windows.ensures.windows ws are in
+    rw (c.deref.ensures.value, given.0, ← c.requires.high) (timeline-take c.args.high c.args.n ws (run_follows c.args.high ws are.run given.1))
 
 pub returns-clause-takes : goal.returns-clause-takes
 returns-clause-takes g c =
     let state : BootParts _ _ → BootState = told g.G.WindowLog.state g.K.Keeper.state in
-    let windows = c.in_ok-windows.windows.items in
-    let chained : IsChained c.args.high windows = c.in_ok-windows.ensures.windows.1 in
-    logs_takes c.log_each.result c.args.n c.args.reply.now windows (state c.args.self.now) (state c.log_each.new.self)
-    (rw (← c.requires.high) c.in_ok-windows.ensures.windows.0) (rw (← c.requires.high) chained) (rw (c.first_of.ensures, c.deref.ensures.value) at c.log_each.ensures.logs) c.log_each.ensures.high
+    let ws = c.requires.windows.0 in
+    let are = c.requires.windows.1 in
+    let given = c.in_ok-windows.ensures.windows ws are in
+    logs_takes c.log_each.result c.args.n c.args.reply.now ws (state c.args.self.now) (state c.log_each.new.self)
+    (rw (← c.requires.high) are) (rw (← c.requires.high) given.1) (rw (c.deref.ensures.value, given.0) at c.log_each.ensures.logs) c.log_each.ensures.high
 
 pub returns-in_err-windows-clause-crash : goal.returns-in_err-windows-clause-crash
 returns-in_err-windows-clause-crash g c =

@@ -1,9 +1,10 @@
-use Rattle.std.proofs.Common.{sym}
-use Rattle.bus_top.proofs.Pieces.{finish_none, finishes, empty_items, some_items}
+use Rattle.bus_top.proofs.Pieces.{finish_none, finishes}
 use Rattle.bus_top.proofs.session.Session.finish.Goals as goal
 
-pub returns-then-is_empty : goal.returns-then-is_empty
-returns-then-is_empty c = finish_none c.args.self.now c.args.text.now.items c.requires (empty_items c.args.self.now.pending.items _ c.args.self.now.pending.ok.0 (sym c.if-is_empty.ensures))
+pub returns-in_default : goal.returns-in_default
+returns-in_default c = finish_none c.args.self.now c.args.text.now.items c.requires c.in_default.ensures.none
 
 pub returns : goal.returns
-returns c = finishes c.step.result _ c.args.self.now c.args.text.now.items c.step.new.bus c.step.new.place c.step.new.text.items c.deref.ensures.value c.requires.part (some_items c.args.self.now.pending.items _ c.args.self.now.pending.ok.0 (sym c.if-is_empty.ensures)) c.step.ensures
+returns c =
+    let last = c.in-Some.ensures in
+    finishes c.take_line.result c.number.result c.in-Some.line.now c.args.self.now c.args.text.now.items c.take_line.new.bus c.take_line.new.text.items c.requires c.number.ensures last.line last.all last.within c.take_line.ensures

@@ -2,7 +2,7 @@ use Rattle.std.proofs.Common.{subst}
 use Rattle.partition_filter.specs.Selection.{test_of}
 use Rattle.client_switch.specs.Client.{Held}
 use Rattle.client_switch.specs.Turning.{CanStand}
-use Rattle.client_switch.proofs.Coming.{can_come, described, read}
+use Rattle.client_switch.proofs.Coming.{coming, described, read}
 use Rattle.client_switch.proofs.Settling.{takes_settled}
 use Rattle.client_switch.proofs.Keeping.{keeps_taken, floor_taken}
 use Rattle.client_switch.proofs.KeepingGood.{good_taken}
@@ -13,7 +13,7 @@ dispatch-requires g c = described c.args.ask.now c.args.reply.now c.in_ok-shape.
 
 pub settle-requires : goal.settle-requires
 settle-requires g c =
-    can_come c.args.self.now.mark c.args.self.now.wish c.args.self.now.filter c.requires.0 c.args.ask.now c.args.reply.now c.in_ok-shape.shape c.requires.1 c.in_ok-shape.ensures.ok
+    coming c.args.self.now.mark c.args.self.now.wish c.args.self.now.filter c.requires.0 c.args.ask.now c.args.reply.now c.in_ok-shape.shape c.requires.1 c.in_ok-shape.ensures.ok
 
 pub returns-clause-takes : goal.returns-clause-takes
 returns-clause-takes g c =

@@ -1,6 +1,6 @@
 use Rattle.std.proofs.Common.{ap, sym, subst, ◌∙◌, take}
 use Rattle.bus_types.specs.Timeline.{end_of, windows_between}
-use Rattle.history_core.specs.Script.{relay_line}
+use Rattle.trace_script.specs.Printed.{relay_line}
 use Rattle.history_core.specs.Bus.{Parts, state_of, IsSound}
 use Rattle.history_core.proofs.Sound.{fed_on, fed_state, works_feed}
 use Rattle.history_core.proofs.Feeding.{next_front, next_follow}
@@ -22,7 +22,7 @@ returns g c =
     let front = next_front b.source b.relay.tail c.args.count c.first-next.result.now windows in
     let p = c.in_ok-publish.ensures in
     let stands = p.stands b.source h.relay front in
-    let text = ap (λ v. v.items) c.into_bytes.ensures.value ∙ c.in_ok-relay.ensures ∙ (λ i. relay_line ((c.floor.ensures.value ∙ stands.floor) i) (c.tail-2.ensures.value i)) in
+    let text = ap (λ v. v.items) c.into_bytes.ensures.value ∙ c.in_ok-relay_line.ensures ∙ (λ i. relay_line ((c.floor.ensures.value ∙ stands.floor) i) (c.tail-2.ensures.value i)) in
     rw (← c.self.view_is) (
       fed_on (state_of b) (state_of (record b { relay = r })) c.args.count c.into_bytes.result.items (fed_state b r c.args.count c.first-next.result.now windows p) text,
       works_feed b r c.first-next.result.now h front p,

@@ -9,4 +9,6 @@ returns g c =
     let h : IsSound b = subst IsSound (sym c.self.view_is) c.requires in
     let m = c.index_mut-member.result.now in
     let found = found_at b.members c.deref.result.now c.args.name.now c.bytes.result.now c.in-Some.i m c.deref.ensures.value c.bytes.ensures.value c.in-Some.ensures.place c.in-Some.ensures.within c.index_mut-member.ensures.value in
-    rw (← c.self.view_is) (polled b c.in-Some.i c.args.name.now c.args.max m c.poll.new.self c.poll.result h found (c.poll.ensures b.source h.relay h.boot.stands (member_at b c.args.name.now c.in-Some.i m h found)))
+    let at = c.in_ok-poll.ensures.boot b.source h.relay.timeline h.boot in
+    let polls = c.in_ok-poll.ensures.polls b.source h.relay h.boot (member_at b c.args.name.now c.in-Some.i m h found) in
+    rw (← c.self.view_is) (polled b c.in-Some.i c.args.name.now c.args.max m c.poll.new.self c.poll.new.boot _ h found polls at)

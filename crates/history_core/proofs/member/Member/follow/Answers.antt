@@ -1,4 +1,8 @@
-use Rattle.std.proofs.Common.{rules, sym, subst}
+use Rattle.std.proofs.Common.{◌≡◌, length, rules, sym, ap, subst, ◌∙◌}
+use Rattle.std.specs.Prelude.{IfOk}
+use Rattle.trace_script.specs.declared.printing.Stage.{Stage}
+use Rattle.trace_script.specs.Printed.{reply_line}
+use Rattle.history_core.specs.Script.{stage_of}
 use Rattle.history_core.specs.Bus.{MemberState}
 use Rattle.history_core.specs.Polling.{Comes}
 use Rattle.history_core.proofs.Polling.{no_fault, stopped_stored, took_done, stopped_done}
@@ -25,7 +29,7 @@ returns-in-Ok c =
     let old : MemberState = record { name = c.self.inside.name; client = c.self.inside.client; store = c.self.inside.keeper; shows = c.self.inside.shows } in
     took_done old c.args.ask.now c.args.reply.now c.take.new.self c.take.new.keeper c.in-Ok.took c.reply.result
     (record { counts = c.take.ensures.counts; keeps = c.take.ensures.keeps; good = c.take.ensures.good })
-    c.in-Ok.ensures.takes c.reply.ensures)
+    c.in-Ok.ensures.takes (subst (λ (s : Stage). IfOk c.reply.result (λ text. text.items ≡ reply_line s c.in-Ok.took.shape (length c.args.reply.now))) (c.stage_of-stage.ensures ∙ ap stage_of c.mark.ensures.value) c.reply.ensures))
 
 pub returns-in-Err-StoreFault : goal.returns-in-Err-StoreFault
 returns-in-Err-StoreFault c =

@@ -28,4 +28,5 @@ pub returns-clause-appends : goal.returns-clause-appends
 returns-clause-appends g c =
     not_appended_by g.D.Disk.state c.args.self.now _ c.self.view_is c.args.window.now _ _ _ _ _ (same_index _ _ c.make_room.ensures.items)
     (c.deref.ensures.value ∙ c.in-Ok.ensures.text) (omega (arith, c.self.invariant.some)) c.in-Err.ensures
+    (record { chained = c.requires.chained ∙ sym (ap (λ (s : SegmentParts _). s.numbers.high) c.self.view_is); full = c.requires.full; within = c.size-size.ensures.fits })
     (le-ltb _ _ (grind (arith, nat_tests, c.if-self-size.false, c.size-size.ensures.value)))

@@ -1,5 +1,0 @@
-use Rattle.bus_top.proofs.Pieces.{first_some}
-use Rattle.bus_top.proofs.session.first_line.Goals as goal
-
-pub returns : goal.returns
-returns c = record { some = first_some c.args.bytes.now _ _ c.in_ok-at.at c.in_ok-at.ensures c.split_at.ensures.front c.split_at.ensures.back; none = tt }

@@ -1,0 +1,9 @@
+use Rattle.std.proofs.Common.{rules, ap}
+use Rattle.range_ring.proofs.Answering.{entry_before}
+use Rattle.range_ring.proofs.first.scn_before.Goals as goal
+
+pub returns : goal.returns
+returns g c =
+    let entry = c.in_ok-shown.ensures.entry in
+    let before = entry_before g.T.Timeline.told c.in_ok-shown.shown entry c.args.position c.scns.result.1 g.T.Timeline.lawful c.in_ok-shown.ensures.position (ap (λ x. x.1) (c.scns.ensures entry)) in
+    search rules
