@@ -11,6 +11,7 @@ use Rattle.event_codec.specs.Items.Front.{Unfinished, Refused}
 use Rattle.event_codec.specs.Streams.{Come, after_window, after_windows, windows_bytes, Behind, IsReading}
 use Rattle.event_codec.specs.Parsing.{AreWindows}
 use Rattle.event_codec.proofs.Readings.{one_reading, one_place}
+use Rattle.event_codec.proofs.Streams.{come_spans}
 use Rattle.bus_wire.specs.Lawful.{IsAskedFor, after_floor, IsRun}
 use Rattle.window_stream.specs.Stream.{Split, new_split, TakesAll, FindsBad}
 use Rattle.bootstrap_core.specs.Logging.{AreWindowsBehind, IsChained}
@@ -77,10 +78,6 @@ pub come_first : (n : ℕ) (s : Since) (ws : List Span) → Come s ws → Come s
 come_first zero s ws come = tt
 come_first (suc n) s [] come = tt
 come_first (suc n) s (w ∷ ws) come = (come.0, come_first n (after_window s w) ws come.1)
-
-come_spans : (s : Since) (ws : List Span) → Come s ws → AllByRecursion IsSpan ws
-come_spans s [] come = tt
-come_spans s (w ∷ ws) come = (come.0.within, come_spans (after_window s w) ws come.1)
 
 -- the bytes of a reply are its windows
 pub reply_windows : (scn : ℕ) (bytes : List ℕ) (ws : List Span) → AreWindowsBehind scn bytes ws → AreWindows ws bytes

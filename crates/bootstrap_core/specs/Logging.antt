@@ -115,7 +115,8 @@ TakesLog (Err (BadReply place)) count bytes old new =
     ⊎ ((ws : List Span) × AreWindowsBehind old.log.high bytes ws × (IsChained old.log.high ws → ⊥) × (place ≡ first_mark ws)))
 TakesLog (Err (Gap floor)) count bytes old new = SameBoot old new × IsLawful (log_ask old.log.high) bytes (Only (NotFound floor))
 TakesLog (Err (Full need)) count bytes old new = Fills need count bytes old new
-TakesLog (Err LogFailed) count bytes old new = ((ws : List Span) × AreWindowsBehind old.log.high bytes ws × IsChained old.log.high ws) × LogBreaks old new
+TakesLog (Err LogFailed) count bytes old new = ((ws : List Span) × AreWindowsBehind old.log.high bytes ws × IsChained old.log.high ws)
+    × LogBreaks old new
 TakesLog (Err Halted) count bytes old new = SameBoot old new
 TakesLog (Err NoMemory) count bytes old new = LogsSome count bytes old new
 
@@ -123,7 +124,8 @@ TakesLog (Err NoMemory) count bytes old new = LogsSome count bytes old new
 
 -- the windows that a call may append: the first so many of a reply whose windows follow the log's newest one, or none
 abbrev pub AreBrought : ℕ → List ℕ → ℕ → List Span → Type 0
-AreBrought count bytes high brought = (brought ≡ []) ⊎ ((ws : List Span) × AreWindowsBehind high bytes ws × IsChained high ws × (brought ≡ take count ws))
+AreBrought count bytes high brought =
+    (brought ≡ []) ⊎ ((ws : List Span) × AreWindowsBehind high bytes ws × IsChained high ws × (brought ≡ take count ws))
 
 -- ---- a reply that is true
 

@@ -101,7 +101,9 @@ pub record SetsNone (base : ℕ) (old new : BootState) : Type 0 where
 -- a call of `trim`, by its answer
 abbrev pub Trims : Result ℕ BootFault → ℕ → BootState → BootState → Type 0
 Trims (Ok base) scn old new = (new.halted ≡ false) × FindsBase scn base old × (Keeps base old new ⊎ DropsLater base old new)
-Trims (Err LogFailed) scn old new = (new.halted ≡ true) × Rose old.log.faults new.log.faults × (SameParts old new ⊎ ((base : ℕ) × FindsBase scn base old × SetsLater base old new))
-Trims (Err StoreFailed) scn old new = (new.halted ≡ true) × Rose old.keeper.faults new.keeper.faults × ((base : ℕ) × FindsBase scn base old × SetsNone base old new)
+Trims (Err LogFailed) scn old new = (new.halted ≡ true) × Rose old.log.faults new.log.faults
+    × (SameParts old new ⊎ ((base : ℕ) × FindsBase scn base old × SetsLater base old new))
+Trims (Err StoreFailed) scn old new = (new.halted ≡ true) × Rose old.keeper.faults new.keeper.faults
+    × ((base : ℕ) × FindsBase scn base old × SetsNone base old new)
 Trims (Err Halted) scn old new = new ≡ old
 Trims (Err NoMemory) scn old new = (new.halted ≡ old.halted) × SameParts old new

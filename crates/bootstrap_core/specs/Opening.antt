@@ -28,7 +28,8 @@ OpensNot BadMark log old new = IfSome new.content (λ c. (mark : BootMark) → I
 OpensNot (Ahead applied high) log old new =
     (high ≡ log.high) × (high < applied) × IfSome new.content (λ c. (mark : BootMark) × IsBootStored c.mark mark × (mark.applied ≡ applied))
 OpensNot (Hole base floor) log old new =
-    (floor ≡ log.floor) × (base < floor) × IfSome new.content (λ c. (mark : BootMark) × IsBootStored c.mark mark × (mark.base ≡ base) × (mark.applied ≤ log.high))
+    (floor ≡ log.floor) × (base < floor)
+    × IfSome new.content (λ c. (mark : BootMark) × IsBootStored c.mark mark × (mark.base ≡ base) × (mark.applied ≤ log.high))
 OpensNot LogFailed log old new = ⊥
 OpensNot StoreFailed log old new = Rose old.faults new.faults × IfSome old.stops (λ s. s.sound ≡ false)
 OpensNot NoMemory log old new = Unit {0}

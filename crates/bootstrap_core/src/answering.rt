@@ -328,7 +328,8 @@ impl<G: WindowLog, K: Keeper> Boot<G, K> {
         ensures store { IsErrOf result BootFault.StoreFailed → Rose (K.state self.old.keeper).faults (K.state self.new.keeper).faults }
         ensures sound_log { IsErrOf result BootFault.LogFailed → IfSome (G.state self.old.log).room (λ room. room.sound ≡ false) }
         ensures sound_store { IsErrOf result BootFault.StoreFailed → IfSome (K.state self.old.keeper).stops (λ s. s.sound ≡ false) }
-        ensures crash { self.old.halted ≡ false → IfSome (G.state self.old.log).windows (λ ws. G.passes ws (at_rest (G.state self.old.log)) self.old.log self.new.log) }
+        ensures crash { self.old.halted ≡ false → IfSome (G.state self.old.log).windows
+            (λ ws. G.passes ws (at_rest (G.state self.old.log)) self.old.log self.new.log) }
     {
         if self.halted {
             return Err(BootFault::Halted);

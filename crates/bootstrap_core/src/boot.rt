@@ -52,8 +52,10 @@ impl<G: WindowLog, K: Keeper> Boot<G, K> {
         ensures log { IfOk result (λ boot. boot.log ≡ log) }
         ensures fault { IfErr result (λ e. OpensNot e.0 (G.state log) (K.state keeper) (K.state e.2)) }
         ensures back { IfErr result (λ e. (e.1 ≡ log) × SameStore (K.state keeper) (K.state e.2)) }
-        ensures faults { MatchResult result (λ boot. (K.state keeper).faults ≤ (K.state boot.keeper).faults) (λ e. (K.state keeper).faults ≤ (K.state e.2).faults) }
-        ensures calls { MatchResult result (λ boot. BothTold (λ a b. a ≤ b) (K.state keeper).calls (K.state boot.keeper).calls) (λ e. BothTold (λ a b. a ≤ b) (K.state keeper).calls (K.state e.2).calls) }
+        ensures faults { MatchResult result (λ boot. (K.state keeper).faults ≤ (K.state boot.keeper).faults)
+            (λ e. (K.state keeper).faults ≤ (K.state e.2).faults) }
+        ensures calls { MatchResult result (λ boot. BothTold (λ a b. a ≤ b) (K.state keeper).calls (K.state boot.keeper).calls)
+            (λ e. BothTold (λ a b. a ≤ b) (K.state keeper).calls (K.state e.2).calls) }
 
         // Log and keeper of a bootstrap that stood for a timeline give one that does, at the same numbers, where the keeper still
         // tells its content.
@@ -111,7 +113,8 @@ impl<G: WindowLog, K: Keeper> Boot<G, K> {
     /// a snapshot helps, and that is not to end before `since`. A delta goes from `since` to the number of `StartDelta`.
     pub fn start(&self, since: u64, fresh: bool) -> Answer
         ensures within { IsAnswer result }
-        ensures reply { (ws : List Span) (test : Test) → boot_reply ws test (numbers (G.state self.now.log) self.now.mark) (Question.Start since fresh) ≡ Reply.Only result }
+        ensures reply { (ws : List Span) (test : Test)
+            → boot_reply ws test (numbers (G.state self.now.log) self.now.mark) (Question.Start since fresh) ≡ Reply.Only result }
     {
         let high = self.log.high();
         if fresh {
@@ -133,7 +136,8 @@ impl<G: WindowLog, K: Keeper> Boot<G, K> {
     /// Up to where a scan that began at `start` is to be replayed, at least up to `atleast`.
     pub fn target(&self, start: u64, atleast: u64) -> Answer
         ensures within { IsAnswer result }
-        ensures reply { (ws : List Span) (test : Test) → boot_reply ws test (numbers (G.state self.now.log) self.now.mark) (Question.Target start atleast) ≡ Reply.Only result }
+        ensures reply { (ws : List Span) (test : Test)
+            → boot_reply ws test (numbers (G.state self.now.log) self.now.mark) (Question.Target start atleast) ≡ Reply.Only result }
     {
         let high = self.log.high();
         if self.mark.base > start {

@@ -39,11 +39,13 @@ impl<G: WindowLog, K: Keeper> Boot<G, K> {
         ensures faults { (G.state self.old.log).faults ≤ (G.state self.new.log).faults }
         ensures room { (G.state self.new.log).room ≡ (G.state self.old.log).room }
         ensures keeper { self.new.keeper ≡ self.old.keeper }
-        ensures crash { self.old.halted ≡ false → IfSome (G.state self.old.log).windows (λ held. (brought : List Span) × AreBrought n reply.now (G.state self.old.log).high brought ×
+        ensures crash { self.old.halted ≡ false → IfSome (G.state self.old.log).windows
+            (λ held. (brought : List Span) × AreBrought n reply.now (G.state self.old.log).high brought ×
             G.passes (held ++ brought) (growing_to (end_from (G.state self.old.log).high brought) (G.state self.old.log)) self.old.log self.new.log) }
 
         // One that stands for a timeline still does after a reply that is true of it, unless it is halted.
-        ensures stands { (ws : List Span) → IsTimeline ws → Stands ws (told G.state K.state self.old) → IsRelayReply ws (G.state self.old.log).high reply.now →
+        ensures stands { (ws : List Span) → IsTimeline ws → Stands ws (told G.state K.state self.old)
+            → IsRelayReply ws (G.state self.old.log).high reply.now →
             self.new.halted ≡ false → Stands ws (told G.state K.state self.new) }
     {
         if self.halted {
@@ -72,7 +74,8 @@ impl<G: WindowLog, K: Keeper> Boot<G, K> {
         ensures room { (G.state self.new.log).room ≡ (G.state self.old.log).room }
         ensures keeper { self.new.keeper ≡ self.old.keeper }
         ensures runs { IsErrOf result TakeLog.Halted → ⊥ }
-        ensures crash { IfSome (G.state self.old.log).windows (λ held. (brought : List Span) × AreBrought n reply.now (G.state self.old.log).high brought ×
+        ensures crash { IfSome (G.state self.old.log).windows
+            (λ held. (brought : List Span) × AreBrought n reply.now (G.state self.old.log).high brought ×
             G.passes (held ++ brought) (growing_to (end_from (G.state self.old.log).high brought) (G.state self.old.log)) self.old.log self.new.log) }
     {
         let _rests = self.log.high();
@@ -90,7 +93,8 @@ impl<G: WindowLog, K: Keeper> Boot<G, K> {
     ) -> Result<Vec<Window>, TakeLog>
         requires high { high ≡ (G.state self.now.log).high }
         requires windows { (ws : List Span) × AreWindowsBehind high reply.now ws }
-        ensures windows { IfOk result (λ windows. (ws : List Span) → AreWindowsBehind high reply.now ws → (windows.items ≡ take n ws) × IsChained high ws) }
+        ensures windows { IfOk result (λ windows. (ws : List Span) → AreWindowsBehind high reply.now ws → (windows.items ≡ take n ws)
+            × IsChained high ws) }
         ensures fault { IfErr result (λ fault. TakesLog (Err fault) n reply.now (told G.state K.state self.now) (told G.state K.state self.now)) }
         ensures runs { IsErrOf result TakeLog.Halted → ⊥ }
     {
@@ -105,7 +109,8 @@ impl<G: WindowLog, K: Keeper> Boot<G, K> {
     fn first_fault(&self, high: u64, reply: &[u8], n: u32) -> Option<TakeLog>
         requires high { high ≡ (G.state self.now.log).high }
         requires windows { (ws : List Span) × AreWindowsBehind high reply.now ws }
-        ensures none { IfNone result ((ws : List Span) → AreWindowsBehind high reply.now ws → IsChained high ws × FindsRoom (G.state self.now.log) (slice_get (take n ws) 0)) }
+        ensures none { IfNone result ((ws : List Span) → AreWindowsBehind high reply.now ws → IsChained high ws
+            × FindsRoom (G.state self.now.log) (slice_get (take n ws) 0)) }
         ensures fault { IfSome result (λ fault. TakesLog (Err fault) n reply.now (told G.state K.state self.now) (told G.state K.state self.now)) }
         ensures runs { result ≡ Some TakeLog.Halted → ⊥ }
     {
@@ -133,7 +138,9 @@ impl<G: WindowLog, K: Keeper> Boot<G, K> {
         ensures faults { (G.state self.old.log).faults ≤ (G.state self.new.log).faults }
         ensures room { (G.state self.new.log).room ≡ (G.state self.old.log).room }
         ensures keeper { self.new.keeper ≡ self.old.keeper }
-        ensures crash { IfSome (G.state self.old.log).windows (λ held. G.passes (held ++ windows.now) (growing_to (end_from (G.state self.old.log).high windows.now) (G.state self.old.log)) self.old.log self.new.log) }
+        ensures crash { IfSome (G.state self.old.log).windows
+            (λ held. G.passes (held ++ windows.now) (growing_to (end_from (G.state self.old.log).high windows.now)
+            (G.state self.old.log)) self.old.log self.new.log) }
     {
         let _rests = self.log.high();
         for window in windows {
@@ -149,7 +156,8 @@ impl<G: WindowLog, K: Keeper> Boot<G, K> {
         ensures faults { (G.state self.old.log).faults ≤ (G.state self.new.log).faults }
         ensures room { (G.state self.new.log).room ≡ (G.state self.old.log).room }
         ensures keeper { self.new.keeper ≡ self.old.keeper }
-        ensures crash { IfSome (G.state self.old.log).windows (λ held. G.passes (held ++ window.now ∷ []) (growing_to window.now.scn (G.state self.old.log)) self.old.log self.new.log) }
+        ensures crash { IfSome (G.state self.old.log).windows
+            (λ held. G.passes (held ++ window.now ∷ []) (growing_to window.now.scn (G.state self.old.log)) self.old.log self.new.log) }
     {
         let _room = self.log.high();
         match self.log.append(alloc, window) {

@@ -32,13 +32,16 @@ impl<G: WindowLog, K: Keeper> Boot<G, K> {
         ensures calls { BothTold (λ a b. a ≤ b) (K.state self.old.keeper).calls (K.state self.new.keeper).calls }
         ensures room { (G.state self.new.log).room ≡ (G.state self.old.log).room }
         ensures sound { IsErrOf result BootFault.LogFailed → IfSome (G.state self.old.log).room (λ room. room.sound ≡ false) }
-        ensures crash { self.old.halted ≡ false → IfSome (G.state self.old.log).windows (λ ws. G.passes ws (at_rest (G.state self.old.log)) self.old.log self.new.log) }
+        ensures crash { self.old.halted ≡ false → IfSome (G.state self.old.log).windows
+            (λ ws. G.passes ws (at_rest (G.state self.old.log)) self.old.log self.new.log) }
 
         // One that stands for a timeline, whose log tells its windows, still does; after a fault of the keeper, at the numbers
         // before the commit or after.
-        ensures stands { (ws : List Span) → IsTimeline ws → Stands ws (told G.state K.state self.old) → TellsWindows (G.state self.old.log) → self.new.halted ≡ false →
+        ensures stands { (ws : List Span) → IsTimeline ws → Stands ws (told G.state K.state self.old)
+            → TellsWindows (G.state self.old.log) → self.new.halted ≡ false →
             Stands ws (told G.state K.state self.new) }
-        ensures reopens { (ws : List Span) → IsTimeline ws → Stands ws (told G.state K.state self.old) → TellsWindows (G.state self.old.log) → self.old.halted ≡ false →
+        ensures reopens { (ws : List Span) → IsTimeline ws → Stands ws (told G.state K.state self.old)
+            → TellsWindows (G.state self.old.log) → self.old.halted ≡ false →
             (mark : BootMark) × StandsForBoot ws (G.state self.new.log) (K.state self.new.keeper) mark }
     {
         if self.halted {
@@ -82,17 +85,21 @@ impl<G: WindowLog, K: Keeper> Boot<G, K> {
         ensures calls { BothTold (λ a b. a ≤ b) (K.state self.old.keeper).calls (K.state self.new.keeper).calls }
         ensures room { (G.state self.new.log).room ≡ (G.state self.old.log).room }
         ensures sound { IsErrOf result BootFault.LogFailed → IfSome (G.state self.old.log).room (λ room. room.sound ≡ false) }
-        ensures crash { self.old.halted ≡ false → IfSome (G.state self.old.log).windows (λ ws. G.passes ws (dropping_to self.new.mark.base (G.state self.old.log)) self.old.log self.new.log) }
+        ensures crash { self.old.halted ≡ false → IfSome (G.state self.old.log).windows
+            (λ ws. G.passes ws (dropping_to self.new.mark.base (G.state self.old.log)) self.old.log self.new.log) }
 
         // A log that tells its windows, begins at the base, and drops every window that it may begins at the new base.
-        ensures floor { TellsWindows (G.state self.old.log) → DropsEach (G.state self.old.log) → (G.state self.old.log).floor ≡ self.old.mark.base → self.new.halted ≡ false →
+        ensures floor { TellsWindows (G.state self.old.log) → DropsEach (G.state self.old.log)
+            → (G.state self.old.log).floor ≡ self.old.mark.base → self.new.halted ≡ false →
             (G.state self.new.log).floor ≡ self.new.mark.base }
 
         // One that stands for a timeline, whose log tells its windows, still does; after a fault of the keeper, at the base
         // before the commit or after. After a fault of the log that is opened again.
-        ensures stands { (ws : List Span) → IsTimeline ws → Stands ws (told G.state K.state self.old) → TellsWindows (G.state self.old.log) → self.new.halted ≡ false →
+        ensures stands { (ws : List Span) → IsTimeline ws → Stands ws (told G.state K.state self.old)
+            → TellsWindows (G.state self.old.log) → self.new.halted ≡ false →
             Stands ws (told G.state K.state self.new) }
-        ensures reopens { (ws : List Span) → IsTimeline ws → Stands ws (told G.state K.state self.old) → TellsWindows (G.state self.old.log) → self.old.halted ≡ false →
+        ensures reopens { (ws : List Span) → IsTimeline ws → Stands ws (told G.state K.state self.old)
+            → TellsWindows (G.state self.old.log) → self.old.halted ≡ false →
             IsErrOf result BootFault.StoreFailed → (mark : BootMark) × StandsForBoot ws (G.state self.new.log) (K.state self.new.keeper) mark }
     {
         if self.halted {
@@ -115,7 +122,8 @@ impl<G: WindowLog, K: Keeper> Boot<G, K> {
         ensures log { IfOk result (λ done. IsLog (G.state self.new.log)) }
         ensures calls { BothTold (λ a b. a ≤ b) (K.state self.old.keeper).calls (K.state self.new.keeper).calls }
         ensures room { (G.state self.new.log).room ≡ (G.state self.old.log).room }
-        ensures crash { IfSome (G.state self.old.log).windows (λ ws. G.passes ws (dropping_to self.new.mark.base (G.state self.old.log)) self.old.log self.new.log) }
+        ensures crash { IfSome (G.state self.old.log).windows
+            (λ ws. G.passes ws (dropping_to self.new.mark.base (G.state self.old.log)) self.old.log self.new.log) }
         ensures log_faults { (G.state self.old.log).faults ≤ (G.state self.new.log).faults }
         ensures faults { (K.state self.old.keeper).faults ≤ (K.state self.new.keeper).faults }
         ensures sound { IsErrOf result BootFault.LogFailed → IfSome (G.state self.old.log).room (λ room. room.sound ≡ false) }

@@ -5,7 +5,8 @@ use Rattle.std.proofs.Math.Seq.{take-add}
 use Rattle.std.proofs.KnownBytes.{Appends-nil, Appends-trans}
 use Rattle.std.specs.Io.KnownBytes.{Appends}
 use Rattle.bus_io.specs.Bytes.{RoomLeft}
-use Rattle.bus_io.specs.Memory.{Reader, next_count, is_listed, after_read}
+use Rattle.bus_types.specs.Counting.{next_count}
+use Rattle.bus_io.specs.Memory.{Reader, is_listed, after_read}
 
 pub RoomLeft-none : (a : Option ℕ) → RoomLeft a a 0
 RoomLeft-none None = tt

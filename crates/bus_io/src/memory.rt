@@ -3,57 +3,24 @@ ghost use Rattle.std.specs.Io.{ReadsAtMost, WritesAtMost};
 ghost use Rattle.std.specs.Io.KnownBytes.{ReadConsumes, WriteAppends};
 ghost use Rattle.bus_types.specs.Causes.{HasCause};
 ghost use Rattle.bus_io.specs.Bytes.{TakesSome, ReadGives, RoomLeft};
-ghost use Rattle.bus_io.specs.Memory.{next_count, new_reader, new_writer, is_listed, is_refused, room_left, after_read, after_write, sure_room};
+ghost use Rattle.bus_types.specs.Counting.{next_count};
+ghost use Rattle.bus_io.specs.Memory.{new_reader, new_writer, is_listed, is_refused, room_left, after_read, after_write, sure_room};
 
 use crate::sink::Sink;
 use crate::source::Source;
-use bus_types::{Count, Failed, NoMemory};
+use bus_types::{Failed, NoMemory, Plan};
 use std::alloc::Global;
 use std::marker::Model;
 
-/// The calls that are to fail, by their numbers from 0, and how many calls were made and have failed. The number of
-/// calls stops at its type's end.
-#[derive(Debug, Drop)]
-struct Plan {
-    fails: Vec<u64>,
-    calls: u64,
-    faults: Count,
-}
-
-impl Plan {
-    fn new(alloc: Global, fails: &[u64]) -> Result<Plan, NoMemory>
-        ensures fails { IfOk result (λ plan. plan.fails.items ≡ fails.now) }
-        ensures calls { IfOk result (λ plan. plan.calls ≡ 0) }
-        ensures faults { IfOk result (λ plan. plan.faults ≡ 0) }
-    {
-        Ok(Plan {
-            fails: Vec::from_slice(alloc, fails)?,
-            calls: 0,
-            faults: Count::zero(),
-        })
-    }
-
-    /// Counts a call, and answers whether it is to fail.
-    fn next_fails(&mut self) -> bool
-        ensures listed { result ≡ is_listed self.old.fails.items self.old.calls }
-        ensures calls { self.new.calls ≡ next_count self.old.calls }
-        ensures faults { self.new.faults ≡ self.old.faults }
-        ensures fails { self.new.fails.items ≡ self.old.fails.items }
-    {
-        let call = self.calls;
-        self.calls = call.saturating_add(1);
-        self.fails.contains(&call)
-    }
-
-    /// Counts a fault.
-    fn fail(&mut self) -> Failed
-        ensures faults { self.new.faults ≡ self.old.faults + 1 }
-        ensures calls { self.new.calls ≡ self.old.calls }
-        ensures fails { self.new.fails.items ≡ self.old.fails.items }
-    {
-        self.faults.raise();
-        Failed
-    }
+// Counts a call, and answers whether it is to fail.
+fn next_fails(plan: &mut Plan<u64>) -> bool
+    ensures listed { result ≡ is_listed plan.old.fails.items plan.old.calls }
+    ensures calls { plan.new.calls ≡ next_count plan.old.calls }
+    ensures faults { plan.new.faults ≡ plan.old.faults }
+    ensures fails { plan.new.fails.items ≡ plan.old.fails.items }
+{
+    let call = plan.next_call();
+    plan.fails.contains(&call)
 }
 
 /// A source in memory, which gives its bytes and fails at the calls that it was told.
@@ -61,7 +28,7 @@ impl Plan {
 pub struct MemorySource {
     bytes: Vec<u8>,
     given: usize,
-    plan: Plan,
+    plan: Plan<u64>,
 }
 
 impl Model for MemorySource {
@@ -132,7 +99,7 @@ impl Source for MemorySource {
         ensures count { IfOk result (λ n. n ≡ min (length buf.old) (length self.old.left)) }
         ensures counted { self.new ≡ after_read self.old (length buf.old) }
     {
-        if self.plan.next_fails() {
+        if next_fails(&mut self.plan) {
             return Err(self.plan.fail());
         }
         let count = copy_front(self.left(), buf);
@@ -146,7 +113,7 @@ impl Source for MemorySource {
 pub struct MemorySink {
     bytes: Vec<u8>,
     room: u64,
-    plan: Plan,
+    plan: Plan<u64>,
 }
 
 impl Model for MemorySink {
@@ -227,7 +194,7 @@ impl Sink for MemorySink {
         ensures count { IfOk result (λ n. n ≡ min (length bytes.now) (room_left self.old)) }
         ensures counted { self.new ≡ after_write self.old bytes.now }
     {
-        let listed = self.plan.next_fails();
+        let listed = next_fails(&mut self.plan);
         let left = self.room as usize - self.bytes.len();
         if is_refused(listed, left, bytes) {
             return Err(self.plan.fail());

@@ -1,5 +1,6 @@
 -- What a keeper in memory is to a contract.
 use Rattle.std.specs.Prelude.{◌≡◌, ℕ, ◌+◌, ◌-◌, ◌^◌, min, ◌==◌, Bool, true, false, if◌then◌else◌, List, [], ◌∷◌, ◌++◌, length, find, slice_get, Option, Some, None, option_map, Result, Ok, Err}
+use Rattle.bus_types.specs.Counting.{next_count}
 use Rattle.bus_types.specs.Table.{RowList}
 use Rattle.bus_stores.specs.declared.keeper.Stop.{Stop}
 use Rattle.bus_stores.specs.declared.keeper.Stop.TheVariants.{Before, After}
@@ -39,10 +40,6 @@ told_by s = record {
 }
 
 -- ---- what a call does
-
--- a number of calls, which stops at its type's end
-abbrev pub next_count : ℕ → ℕ
-next_count n = min (n + 1) (2 ^ 64 - 1)
 
 abbrev pub stop_at : Bool → Stop
 stop_at after = if after then After else Before

@@ -8,7 +8,8 @@ use Rattle.bus_stores.specs.declared.keeper.Stop.TheVariants.{Before, After}
 use Rattle.bus_stores.specs.declared.plan.Fail.{Fail}
 use Rattle.bus_stores.specs.declared.log.LogFault.{LogFault}
 use Rattle.bus_stores.specs.declared.log.LogFault.TheVariants.{Failed, Full, NoMemory}
-use Rattle.bus_stores.specs.Memory.{no_fails, next_count, listed_stop}
+use Rattle.bus_types.specs.Counting.{next_count}
+use Rattle.bus_stores.specs.Memory.{no_fails, listed_stop}
 use Rattle.bus_stores.specs.Log.{LogState}
 
 -- its windows, the SCN behind which they begin, the most bytes that it holds, the calls that are to fail, and how many calls

@@ -74,7 +74,8 @@ pub trait WindowLog {
         requires chained { window.now.prev ≡ (state self.old).high }
         requires full { 0 < length window.now.changes }
         ensures append { AppendsWindow window.now (state self.old) (state self.new) result }
-        ensures crash { IfSome (state self.old).windows (λ ws. passes (ws ++ window.now ∷ []) (growing_to window.now.scn (state self.old)) self.old self.new) };
+        ensures crash { IfSome (state self.old).windows (λ ws. passes (ws ++ window.now ∷ [])
+            (growing_to window.now.scn (state self.old)) self.old self.new) };
 
     /// A copy of the oldest window behind an SCN, and `None` exactly where there is none. A crash meanwhile leaves the
     /// windows that were told.

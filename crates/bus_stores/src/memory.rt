@@ -6,9 +6,9 @@ ghost use Rattle.bus_stores.specs.Memory.{new_store, told_by, stop_at, listed_st
 
 use crate::keeper::{Keeper, Stop, StoreFault};
 use crate::marks::Marks;
-use crate::plan::{Fail, Plan, stop_at};
+use crate::plan::{Fail, next_stop, stop_at};
 use crate::table::Table;
-use bus_types::{Change, Cursor, Key, MarkText, NoMemory, Payload, RowName, Rows};
+use bus_types::{Change, Cursor, Failed, Key, MarkText, NoMemory, Payload, Plan, RowName, Rows};
 use std::alloc::Global;
 use std::marker::Model;
 
@@ -22,7 +22,9 @@ use std::marker::Model;
 pub struct MemoryKeeper {
     table: Table,
     marks: Marks,
-    plan: Plan,
+    // The stop that the next commit meets.
+    armed: Option<Stop>,
+    plan: Plan<Fail>,
 }
 
 impl Model for MemoryKeeper {
@@ -33,7 +35,7 @@ impl Model for MemoryKeeper {
     ghost view = { λ k. record {
       rows = k.table;
       marks = k.marks;
-      armed = k.plan.armed;
+      armed = k.armed;
       fails = k.plan.fails.items;
       calls = k.plan.calls;
       faults = k.plan.faults;
@@ -50,6 +52,7 @@ impl MemoryKeeper {
         Ok(MemoryKeeper {
             table: Table::new(alloc),
             marks: Marks::new(),
+            armed: None,
             plan: Plan::new(alloc, fails)?,
         })
     }
@@ -66,14 +69,14 @@ impl MemoryKeeper {
     pub fn arm(&mut self, after: bool)
         ensures { self.new ≡ record self.old { armed = Some (stop_at after) } }
     {
-        self.plan.armed = Some(stop_at(after));
+        self.armed = Some(stop_at(after));
     }
 
     /// The stop that the next commit meets, where one is armed.
     pub fn armed(&self) -> Option<Stop>
         ensures { result ≡ self.now.armed }
     {
-        self.plan.armed
+        self.armed
     }
 
     // Counts a call, and answers the stop that is listed for it.
@@ -82,7 +85,7 @@ impl MemoryKeeper {
         ensures begun { self.new ≡ begun self.old }
         ensures later { self.old.calls ≤ self.new.calls }
     {
-        self.plan.next_call()
+        next_stop(&mut self.plan)
     }
 
     // Fails a call that reads.
@@ -91,7 +94,8 @@ impl MemoryKeeper {
         ensures failed { self.new ≡ failed self.old }
         ensures later { self.old.faults ≤ self.new.faults }
     {
-        self.plan.fault()
+        let Failed = self.plan.fail();
+        StoreFault::Failed
     }
 
     // Begins a call that reads: it fails where it is listed.
@@ -114,7 +118,7 @@ impl MemoryKeeper {
         ensures begun { self.new ≡ begun self.old }
         ensures later { self.old.calls ≤ self.new.calls }
     {
-        let armed = self.plan.armed;
+        let armed = self.armed;
         armed.or(self.next_call())
     }
 
@@ -124,8 +128,9 @@ impl MemoryKeeper {
         ensures stopped { self.new ≡ stopped self.old }
         ensures later { self.old.faults ≤ self.new.faults }
     {
-        self.plan.armed = None;
-        self.plan.fault()
+        self.armed = None;
+        let Failed = self.plan.fail();
+        StoreFault::Failed
     }
 
     // Makes what a commit asks for, all of it or none.

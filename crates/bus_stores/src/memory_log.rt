@@ -7,8 +7,8 @@ ghost use Rattle.bus_stores.specs.MemoryLog.{new_windows, log_of, log_stop, log_
 
 use crate::keeper::Stop;
 use crate::log::{LogFault, WindowLog};
-use crate::plan::{Fail, Plan};
-use bus_types::{NoMemory, Window};
+use crate::plan::{Fail, next_stop};
+use bus_types::{Failed, NoMemory, Plan, Window};
 use std::alloc::Global;
 use std::collections::VecDeque;
 use std::marker::Model;
@@ -24,7 +24,7 @@ pub struct MemoryLog {
     size: u64,
     floor: u64,
     limit: u64,
-    plan: Plan,
+    plan: Plan<Fail>,
 }
 
 impl Model for MemoryLog {
@@ -72,7 +72,7 @@ impl MemoryLog {
         ensures listed { result ≡ log_stop self.old }
         ensures begun { self.new ≡ log_begun self.old }
     {
-        self.plan.next_call()
+        next_stop(&mut self.plan)
     }
 
     // Fails a call.
@@ -81,7 +81,8 @@ impl MemoryLog {
         ensures failed { self.new ≡ log_failed self.old }
         ensures later { self.old.faults ≤ self.new.faults }
     {
-        self.plan.log_fault()
+        let Failed = self.plan.fail();
+        LogFault::Failed
     }
 
     // Appends an equal window, for which there is room.

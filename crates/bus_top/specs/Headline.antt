@@ -48,8 +48,10 @@ published_after s scn = windows_between scn s.end s.windows
 abbrev pub IsAnswer : State → ℕ → Test → ℕ → Served → Type 0
 IsAnswer s scn test max (NotFound n) = (0 < length (evicted_after s scn)) × (n ≡ floor s)
 IsAnswer s scn test max (Empty n) = (evicted_after s scn ≡ []) × (published_after s scn ≡ []) × (n ≡ s.end)
-IsAnswer s scn test max (TooSmall n) = (evicted_after s scn ≡ []) × ((next : Span) × (rest : List Span) × (cuts test (published_after s scn) ≡ next ∷ rest) × (n ≡ span_size next) × (max < n))
-IsAnswer s scn test max (Windows ws) = (evicted_after s scn ≡ []) × (0 < length ws) × IsLongestRun most_windows max (cuts test (published_after s scn)) ws
+IsAnswer s scn test max (TooSmall n) = (evicted_after s scn ≡ [])
+    × ((next : Span) × (rest : List Span) × (cuts test (published_after s scn) ≡ next ∷ rest) × (n ≡ span_size next) × (max < n))
+IsAnswer s scn test max (Windows ws) = (evicted_after s scn ≡ []) × (0 < length ws)
+    × IsLongestRun most_windows max (cuts test (published_after s scn)) ws
 
 -- who asked the relay by this line, which prints this text, was answered so: a `stream` line, and a poll of a consumer that is
 -- online and doesn't want to begin again
@@ -69,4 +71,5 @@ pub record Headline (input : Option (List ℕ)) (kept : Option Parts) : Type 0 w
   -- from the state after some lines to that after more of them no consumer is lost, and the SCN of no stored mark falls
   pub onward : IfSome input (λ bytes. (n m : ℕ) → n ≤ m → GoOn (state_after n bytes).consumers (state_after m bytes).consumers)
   -- whatever line is taken after some lines, who asks the relay is answered by what it has evicted and published
-  pub answers : IfSome input (λ bytes. (n : ℕ) (line : Line) (next : State) (text : List ℕ) → line_step (state_after n bytes) line ≡ Some (next, text) → IsAnswered (state_after n bytes) line text)
+  pub answers : IfSome input (λ bytes. (n : ℕ) (line : Line) (next : State) (text : List ℕ)
+      → line_step (state_after n bytes) line ≡ Some (next, text) → IsAnswered (state_after n bytes) line text)

@@ -101,8 +101,12 @@ pub record TookLines (come : List ℕ) (s : Session) (text text' : List ℕ) : T
 -- how a run ends that stops in what had come, whatever follows it, in the state of this bus, which is sound; where the output
 -- failed its text begins so, and where memory ran out whole lines of it were taken
 abbrev pub StopsIn : Stop → List ℕ → Session → List ℕ → Parts → Type 0
-StopsIn (BadLine n) come s text b = IsSound b × ((rest : List ℕ) → run_bytes s.bus s.lines (come ++ rest) ≡ record { text = text; ending = BadAt n; state = state_of b })
-StopsIn (TooLong n) come s text b = IsSound b × ((rest : List ℕ) → run_bytes s.bus s.lines (come ++ rest) ≡ record { text = text; ending = TooLongAt n; state = state_of b })
+StopsIn (BadLine n) come s text b =
+    IsSound b × ((rest : List ℕ) →
+    run_bytes s.bus s.lines (come ++ rest) ≡ record { text = text; ending = BadAt n; state = state_of b })
+StopsIn (TooLong n) come s text b =
+    IsSound b × ((rest : List ℕ) →
+    run_bytes s.bus s.lines (come ++ rest) ≡ record { text = text; ending = TooLongAt n; state = state_of b })
 StopsIn WriteFault come s text b = (rest : List ℕ) → StartsWith (run_bytes s.bus s.lines (come ++ rest)).text text
 StopsIn NoMemory come s text b = TookLines come s [] text
 

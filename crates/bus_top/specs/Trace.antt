@@ -18,7 +18,8 @@ EndsAt ending input written written' = IfSome input (λ bytes. ((script bytes).e
 -- where the input is told: what was written is the text of the whole lines of the part that was read, none of which is at fault
 abbrev pub StopsReading : Option (List ℕ) → Option (List ℕ) → Option (List ℕ) → Option (List ℕ) → Type 0
 StopsReading input left written written' =
-    IfSome input (λ bytes. (front : List ℕ) × Consumes input left front × ((script (whole_part front)).ending ≡ Finished) × Appends written written' (script (whole_part front)).text)
+    IfSome input (λ bytes. (front : List ℕ) × Consumes input left front × ((script (whole_part front)).ending ≡ Finished)
+    × Appends written written' (script (whole_part front)).text)
 
 -- where the input is told: what was written is a front of the text that the script in it prints
 abbrev pub StopsWriting : Option (List ℕ) → Option (List ℕ) → Option (List ℕ) → Type 0
@@ -27,7 +28,8 @@ StopsWriting input written written' = IfSome input (λ bytes. (n : ℕ) × Appen
 -- where the input is told: what was written is the text of the whole lines in a front of it, none of which is at fault
 abbrev pub StopsShort : Option (List ℕ) → Option (List ℕ) → Option (List ℕ) → Type 0
 StopsShort input written written' =
-    IfSome input (λ bytes. (front : List ℕ) × (rest : List ℕ) × (bytes ≡ front ++ rest) × ((script (whole_part front)).ending ≡ Finished) × Appends written written' (script (whole_part front)).text)
+    IfSome input (λ bytes. (front : List ℕ) × (rest : List ℕ) × (bytes ≡ front ++ rest) × ((script (whole_part front)).ending ≡ Finished)
+    × Appends written written' (script (whole_part front)).text)
 
 -- the one word `trace`
 abbrev pub IsTrace : List (String Global) → Type 0

@@ -40,7 +40,8 @@ pub fn trace<S: Source, W: Sink>(
 
     // The first line at fault, and what the lines before it print.
     ensures bad_line { (line : ℕ) → result ≡ Status.BadLine line → EndsAt (BadAt line) (S.left input.old) (W.written out.old) (W.written out.new) }
-    ensures too_long { (line : ℕ) → result ≡ Status.TooLong line → EndsAt (TooLongAt line) (S.left input.old) (W.written out.old) (W.written out.new) }
+    ensures too_long { (line : ℕ) → result ≡ Status.TooLong line
+        → EndsAt (TooLongAt line) (S.left input.old) (W.written out.old) (W.written out.new) }
 
     // A fault of the input or the output comes only where its count rose.
     ensures read_fault { result ≡ Status.ReadFault → Rose (S.faults input.old) (S.faults input.new) }
@@ -136,8 +137,10 @@ fn turn<S: Source, W: Sink>(
 ) -> Option<Status>
     requires session { IsSession session.old }
     requires room { 0 < length piece.old }
-    ensures turned { (first start : Option (List ℕ)) → Reached first (S.left input.old) start (W.written out.old) session.old → Turned result first (S.left input.new) start (W.written out.new) session.new }
-    ensures grows { IfNone result (IsSession session.new × (session.old.lines.used + length session.old.lines.come < session.new.lines.used + length session.new.lines.come)) }
+    ensures turned { (first start : Option (List ℕ)) → Reached first (S.left input.old) start (W.written out.old) session.old
+        → Turned result first (S.left input.new) start (W.written out.new) session.new }
+    ensures grows { IfNone result (IsSession session.new
+        × (session.old.lines.used + length session.old.lines.come < session.new.lines.used + length session.new.lines.come)) }
     ensures later_input { S.faults input.old ≤ S.faults input.new }
     ensures later_output { W.faults out.old ≤ W.faults out.new }
     ensures read_fault { result ≡ Some Status.ReadFault → Rose (S.faults input.old) (S.faults input.new) }

@@ -102,7 +102,9 @@ impl Session {
         ensures took { IfOk result (λ next. IfSome next (λ rest. TakesNext self.old piece.now self.new rest.now text.old.items text.new.items)) }
         ensures held { IfOk result (λ next. IfNone next (HoldsPiece self.old piece.now self.new)) }
         ensures printed { IfOk result (λ next. IfNone next (text.new.items ≡ text.old.items)) }
-        ensures stops { IfErr result (λ stop. Stops stop text.old.items text.new.items self.new.bus (λ (more : List ℕ). before text.old.items (run_bytes self.old.bus self.old.lines (self.old.lines.come ++ (piece.now ++ more))))) }
+        ensures stops { IfErr result (λ stop. Stops stop text.old.items text.new.items self.new.bus
+            (λ (more : List ℕ). before text.old.items (run_bytes self.old.bus self.old.lines
+            (self.old.lines.come ++ (piece.now ++ more))))) }
     {
         let Some((end, rest)) = self.lines.take(piece)? else {
             // What is held is within the limits of an input.

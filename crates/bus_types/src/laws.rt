@@ -38,13 +38,15 @@ pub fn a_reply_is_the_longest_run()
 /// and no lower one has room behind it. As windows are published, it never falls.
 pub fn the_floor_is_the_least_place_with_room()
     ensures least { (room : Room) (ws : List Span) (end : ℕ) → IsTimeline ws → is_place end ws ≡ true → IsFloor room ws end (floor_of room ws end) }
-    ensures rises { (room : Room) (ws : List Span) (a b : ℕ) → IsTimeline ws → is_place a ws ≡ true → is_place b ws ≡ true → a ≤ b → floor_of room ws a ≤ floor_of room ws b }
+    ensures rises { (room : Room) (ws : List Span) (a b : ℕ) → IsTimeline ws → is_place a ws ≡ true → is_place b ws ≡ true → a ≤ b
+        → floor_of room ws a ≤ floor_of room ws b }
 {}
 
 /// A law of a relay's floor: after the first so many windows of a timeline were published, it is where the windows
 /// end that were evicted to make room for the rest of them.
 pub fn the_floor_is_where_windows_were_evicted()
-    ensures { (room : Room) (ws : List Span) (count : ℕ) → IsTimeline ws → floor_of room ws (end_of (take count ws)) ≡ end_of (take (evicted room (sizes ws) count) ws) }
+    ensures { (room : Room) (ws : List Span) (count : ℕ) → IsTimeline ws
+        → floor_of room ws (end_of (take count ws)) ≡ end_of (take (evicted room (sizes ws) count) ws) }
 {}
 
 /// A law of a relay over its whole life. A new relay stands for any timeline. One that stands for a timeline still
@@ -53,8 +55,11 @@ pub fn the_floor_is_where_windows_were_evicted()
 /// window after the SCN asked was evicted.
 pub fn a_relay_stands_for_its_timeline()
     ensures fresh { (ws : List Span) (room : Room) → IsTimeline ws → StandsFor ws (new_relay room) }
-    ensures published { (ws : List Span) (r : Relay) (w : Span) → StandsFor ws r → windows_between r.tail w.scn ws ≡ w ∷ [] → StandsFor ws (published r w) }
+    ensures published { (ws : List Span) (r : Relay) (w : Span) → StandsFor ws r → windows_between r.tail w.scn ws ≡ w ∷ []
+        → StandsFor ws (published r w) }
     ensures committed { (ws : List Span) (r : Relay) (w : Span) → StandsFor ws r → Follows (end_of ws) w → StandsFor (ws ++ w ∷ []) r }
-    ensures answers { (ws : List Span) (r : Relay) (scn : ℕ) (test : Test) (max : ℕ) → StandsFor ws r → answer_of r scn test max ≡ stream ws r.floor r.tail scn test max }
-    ensures evicted { (ws : List Span) (r : Relay) (scn n : ℕ) (test : Test) (max : ℕ) → StandsFor ws r → ((answer_of r scn test max ≡ NotFound n) ↔ ((n ≡ r.floor) × (0 < length (windows_between scn n ws)))) }
+    ensures answers { (ws : List Span) (r : Relay) (scn : ℕ) (test : Test) (max : ℕ) → StandsFor ws r
+        → answer_of r scn test max ≡ stream ws r.floor r.tail scn test max }
+    ensures evicted { (ws : List Span) (r : Relay) (scn n : ℕ) (test : Test) (max : ℕ) → StandsFor ws r
+        → ((answer_of r scn test max ≡ NotFound n) ↔ ((n ≡ r.floor) × (0 < length (windows_between scn n ws)))) }
 {}

@@ -12,6 +12,7 @@ mod fnv;
 mod laws;
 mod limits;
 mod payload;
+mod plan;
 mod row;
 mod text;
 mod timeline;
@@ -30,6 +31,7 @@ pub use laws::{
 };
 pub use limits::{MAX_CHANGES, MAX_PAYLOAD, MAX_SCN, MAX_WINDOW};
 pub use payload::{Payload, PayloadFault};
+pub use plan::Plan;
 pub use row::{Cursor, MarkText, Row, Rows};
 pub use text::{cut_text, read_number};
 pub use timeline::{Timeline, Untold};

@@ -29,7 +29,7 @@ use Rattle.bus_wire.specs.Booted.{IsLimited, RepliesLawfully, IsLawfullyBooted}
 use Rattle.bus_wire.specs.Lawful.{answers, IsAskedFor, after_floor, most_chunk}
 use Rattle.bus_wire.specs.Wanted.{rows_wanted, changes_wanted}
 use Rattle.bus_wire.specs.True.{Boot, IsBoot, reply_of, replay_of, boot_reply}
-use Rattle.bus_wire.proofs.Reading.{come_spans}
+use Rattle.event_codec.proofs.Streams.{come_spans}
 use Rattle.bus_wire.proofs.Replies.{place_bound, stretch_comes, stretch_is_asked_for, longest_is_run}
 use Rattle.bus_wire.proofs.Chunks.{scan_items, delta_items, front_asked, small_or}
 

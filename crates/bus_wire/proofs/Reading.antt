@@ -14,16 +14,14 @@ use Rattle.event_codec.specs.Streams.{Come, after_window, windows_bytes}
 use Rattle.event_codec.specs.Questions.{Reply}
 use Rattle.event_codec.specs.Questions.Reply.{Windows, Rows, Changes, Only}
 use Rattle.event_codec.specs.ReplyViews.{view_of, Spells}
+use Rattle.event_codec.proofs.Parsings.{changes_again}
 use Rattle.event_codec.proofs.Replying.{same_view}
+use Rattle.event_codec.proofs.Streams.{come_spans}
 use Rattle.bus_wire.specs.declared.ask.Ask.{Ask}
 use Rattle.bus_wire.specs.Wanted.{Wanted, rows_wanted, changes_wanted, HoldsItems}
 use Rattle.bus_wire.specs.Lawful.{Body, body_of, HoldsWindows, HoldsRows, HoldsChanges, IsLawful}
 use Rattle.bus_wire.specs.Lawful.Body.{NoBody, WindowsOf, RowsOf, ChangesOf}
 use Rattle.bus_wire.specs.Replies.{AreReplied, AreItems, AreRows, AreChanges, IsReply}
-
-pub come_spans : (s : Since) (ws : List Span) → Come s ws → AllByRecursion IsSpan ws
-come_spans s [] come = tt
-come_spans s (w ∷ ws) come = (come.0.within, come_spans (after_window s w) ws come.1)
 
 windows_read : (body : Body) (bytes : List ℕ) (count last : ℕ) → HoldsWindows body bytes count last
     → (ws : List Span) × Spells (shapes.Windows count last) bytes (Windows ws) × (bytes ≡ windows_bytes ws) × AreReplied body ws
@@ -74,12 +72,7 @@ reply_read ask bytes shape view lawful read =
     let x = lawful_read ask bytes shape lawful in
     subst (IsReply ask bytes) (sym (read x.0 x.1)) x.2
 
--- bytes of a shape are one reply
-changes_again : (n : ℕ) (cs : List Change) → map (λ (e : Event). e.change) (events_of n cs) ≡ cs
-changes_again n [] = refl
-changes_again n (c ∷ cs) = ap (λ (x : List Change). c ∷ x) (changes_again n cs)
-
--- the reply of a view
+-- bytes of a shape are one reply, the reply of their view
 abbrev reply_in : ReplyView → Reply
 reply_in (views.Windows ws) = Windows ws
 reply_in (views.Rows run scn more) = Rows (map (λ (e : Event). e.change) run) scn more

@@ -197,7 +197,8 @@ pub record Reading (floor top : ℕ) (filter : Selection) (bytes : List ℕ) : T
 pub record StopsAt (floor top : ℕ) (filter : Selection) (bytes : List ℕ) (place : ℕ) : Type 0 where
   pub read : Reading floor top filter bytes
   pub stops : (length read.windows ≡ most_windows)
-      ⊎ (can_stand top filter (open_of read.scn read.changes) (front_of (after_windows (after_floor floor) read.windows) (open_of read.scn read.changes) read.part) ≡ false)
+      ⊎ (can_stand top filter (open_of read.scn read.changes)
+      (front_of (after_windows (after_floor floor) read.windows) (open_of read.scn read.changes) read.part) ≡ false)
   pub unended : 0 < length read.windows → length read.changes ≡ 0 → 0 < length read.part
   pub there : place ≡ length (windows_bytes read.windows ++ changes_bytes read.scn read.changes)
 

@@ -53,7 +53,9 @@ boot_reply ws test b (Scan start cursor most) =
     if nat_lt start b.base then Only (LogGone b.base) else if nat_lt b.applied start then Only (Behind b.applied)
     else chunk_of (λ cs more. Rows cs b.applied more) most (puts_of (rest_of cursor (view test ws b.applied)))
 boot_reply ws test b (Target start least) =
-    if nat_lt start b.base then Only (LogGone b.base) else if nat_lt b.high start || nat_lt b.high least then Only (Behind b.high) else Only (GoTo b.high)
+    if nat_lt start b.base then Only (LogGone b.base)
+    else if nat_lt b.high start || nat_lt b.high least then Only (Behind b.high)
+    else Only (GoTo b.high)
 boot_reply ws test b (Catchup at target most) =
     if nat_lt at b.base then Only (LogGone b.base) else if nat_lt b.high target then Only (Behind b.high)
     else replay_of b.high most (cuts test (windows_between at target ws))

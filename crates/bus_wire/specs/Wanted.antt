@@ -115,7 +115,8 @@ pub record StandsBehindFrame (w : Wanted) (count : ℕ) (part : List ℕ) : Type
 pub record ItemsStop (w : Wanted) (bytes : List ℕ) (place : ℕ) : Type 0 where
   pub read : ItemsRead w bytes
   pub stops :
-      (StandsBehindFrame (wanted_after w read.scn read.changes) (length read.changes) read.part × (place ≡ length (changes_bytes read.scn read.changes) + 10))
+      (StandsBehindFrame (wanted_after w read.scn read.changes) (length read.changes) read.part
+      × (place ≡ length (changes_bytes read.scn read.changes) + 10))
       ⊎ ((goes_on (wanted_after w read.scn read.changes) (length read.changes) (event_in_front read.part) ≡ false)
       × (ends (wanted_after w read.scn read.changes) (length read.changes) (closing_in_front read.part) ≡ false)
       × (place ≡ length (changes_bytes read.scn read.changes)))

@@ -42,7 +42,8 @@ fn check_answer(ask: &Ask, answer: Answer, bytes: &[u8]) -> Result<Shape, BadRep
 
 // Bytes that are windows above a floor and up to a top.
 fn windows_shape(floor: u64, top: u64, filter: &Filter, bytes: &[u8]) -> Result<Shape, BadReply>
-    ensures { MatchResult result (λ shape. IsShaped (WindowsOf floor top filter.now) bytes.now shape) (λ fault. StopsIn (WindowsOf floor top filter.now) bytes.now fault.place) }
+    ensures { MatchResult result (λ shape. IsShaped (WindowsOf floor top filter.now) bytes.now shape)
+        (λ fault. StopsIn (WindowsOf floor top filter.now) bytes.now fault.place) }
 {
     let (count, last) = check_windows(floor, top, filter, bytes)?;
     Ok(Shape::Windows { count, last })
@@ -50,7 +51,8 @@ fn windows_shape(floor: u64, top: u64, filter: &Filter, bytes: &[u8]) -> Result<
 
 // Bytes that are rows from an SCN on, after a cursor.
 fn rows_shape(start: u64, cursor: &Cursor, filter: &Filter, bytes: &[u8]) -> Result<Shape, BadReply>
-    ensures { MatchResult result (λ shape. IsShaped (RowsOf start cursor.now filter.now) bytes.now shape) (λ fault. StopsIn (RowsOf start cursor.now filter.now) bytes.now fault.place) }
+    ensures { MatchResult result (λ shape. IsShaped (RowsOf start cursor.now filter.now) bytes.now shape)
+        (λ fault. StopsIn (RowsOf start cursor.now filter.now) bytes.now fault.place) }
 {
     let wanted = Items {
         deletes: false,
@@ -70,7 +72,8 @@ fn changes_shape(
     filter: &Filter,
     bytes: &[u8],
 ) -> Result<Shape, BadReply>
-    ensures { MatchResult result (λ shape. IsShaped (ChangesOf target cursor.now filter.now) bytes.now shape) (λ fault. StopsIn (ChangesOf target cursor.now filter.now) bytes.now fault.place) }
+    ensures { MatchResult result (λ shape. IsShaped (ChangesOf target cursor.now filter.now) bytes.now shape)
+        (λ fault. StopsIn (ChangesOf target cursor.now filter.now) bytes.now fault.place) }
 {
     let wanted = Items {
         deletes: true,

@@ -110,7 +110,8 @@ impl<'a> Walk<'a> {
 
     // Behind the event that stands in front. None where none that may come does.
     fn advance(&self) -> Option<Walk<'a>>
-        ensures { MatchOption result (Stays self.now) (λ next. (w : Wanted) (bytes : List ℕ) → IsWalked w bytes self.now → Walks w bytes self.now next) }
+        ensures { MatchOption result (Stays self.now) (λ next. (w : Wanted) (bytes : List ℕ) → IsWalked w bytes self.now
+            → Walks w bytes self.now next) }
     {
         let (event, _own, rest) = EventView::split(self.rest)?;
         if !self.takes(&event) {
@@ -125,7 +126,8 @@ impl<'a> Walk<'a> {
 
     // The closing frame that stands in front, where it may, and the bytes behind it.
     fn close(&self) -> Option<(Close, &'a [u8])>
-        ensures { MatchOption result (ends (wanted_of self.now.items) self.now.count (closing_in_front self.now.rest.now) ≡ false) (λ x. IsClosed self.now x.0 x.1.now) }
+        ensures { MatchOption result (ends (wanted_of self.now.items) self.now.count (closing_in_front self.now.rest.now) ≡ false)
+            (λ x. IsClosed self.now x.0 x.1.now) }
     {
         let (close, behind) = Close::split(self.rest)?;
         if !self.items.ends_with(self.count, &close) {
@@ -138,7 +140,8 @@ impl<'a> Walk<'a> {
     fn end(&self, wanted: &Items, bytes: &[u8]) -> Result<(u32, u64, bool), BadReply>
         requires walked { IsWalked (wanted_of wanted.now) bytes.now self.now }
         requires stays { Stays self.now }
-        ensures { MatchResult result (λ found. HoldsItems (wanted_of wanted.now) bytes.now found.0 found.1 found.2) (λ fault. ItemsStop (wanted_of wanted.now) bytes.now fault.place) }
+        ensures { MatchResult result (λ found. HoldsItems (wanted_of wanted.now) bytes.now found.0 found.1 found.2)
+            (λ fault. ItemsStop (wanted_of wanted.now) bytes.now fault.place) }
     {
         let Some((close, behind)) = self.close() else {
             return Err(BadReply {
@@ -157,7 +160,8 @@ impl<'a> Walk<'a> {
 // The number of items, and the SCN and the flag of their closing frame, where the bytes are items that may come one after
 // the other and then the frame.
 pub(crate) fn check_run(wanted: &Items, bytes: &[u8]) -> Result<(u32, u64, bool), BadReply>
-    ensures { MatchResult result (λ found. HoldsItems (wanted_of wanted.now) bytes.now found.0 found.1 found.2) (λ fault. ItemsStop (wanted_of wanted.now) bytes.now fault.place) }
+    ensures { MatchResult result (λ found. HoldsItems (wanted_of wanted.now) bytes.now found.0 found.1 found.2)
+        (λ fault. ItemsStop (wanted_of wanted.now) bytes.now fault.place) }
 {
     let mut walk = Walk {
         items: *wanted,

@@ -17,7 +17,8 @@ ghost use Rattle.bus_wire.specs.Booted.{IsLimited, IsLawfullyBooted};
 /// and not both.
 pub fn a_reply_has_one_shape()
     ensures shape { (ask : Ask) (bytes : List ℕ) (one other : Shape) → IsLawful ask bytes one → IsLawful ask bytes other → one ≡ other }
-    ensures windows { (floor top : ℕ) (filter : Selection) (ws vs : List Span) → IsRun floor top filter ws → IsRun floor top filter vs → windows_bytes ws ≡ windows_bytes vs → ws ≡ vs }
+    ensures windows { (floor top : ℕ) (filter : Selection) (ws vs : List Span) → IsRun floor top filter ws → IsRun floor top filter vs
+        → windows_bytes ws ≡ windows_bytes vs → ws ≡ vs }
     ensures place { (ask : Ask) (bytes : List ℕ) (place other : ℕ) → IsFaultAt ask bytes place → IsFaultAt ask bytes other → place ≡ other }
     ensures unlawful { (ask : Ask) (bytes : List ℕ) (place : ℕ) (shape : Shape) → IsFaultAt ask bytes place → IsLawful ask bytes shape → ⊥ }
 {}

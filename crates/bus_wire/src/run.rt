@@ -147,7 +147,8 @@ impl<'a> Windows<'a> {
     fn end(&self, run: Run) -> Result<(u32, u64), BadReply>
         requires reached { IsReached self.now run }
         requires halts { Halts self.now run }
-        ensures { MatchResult result (λ found. HoldsRun self.now.floor self.now.top self.now.filter.now self.now.bytes.now found.0 found.1) (λ fault. StopsAt self.now.floor self.now.top self.now.filter.now self.now.bytes.now fault.place) }
+        ensures { MatchResult result (λ found. HoldsRun self.now.floor self.now.top self.now.filter.now self.now.bytes.now found.0 found.1)
+            (λ fault. StopsAt self.now.floor self.now.top self.now.filter.now self.now.bytes.now fault.place) }
     {
         if self.is_whole(run) {
             return Ok((run.count, run.follows.floor));
@@ -166,7 +167,8 @@ pub(crate) fn check_windows(
     filter: &Filter,
     bytes: &[u8],
 ) -> Result<(u32, u64), BadReply>
-    ensures { MatchResult result (λ found. HoldsRun floor top filter.now bytes.now found.0 found.1) (λ fault. StopsAt floor top filter.now bytes.now fault.place) }
+    ensures { MatchResult result (λ found. HoldsRun floor top filter.now bytes.now found.0 found.1)
+        (λ fault. StopsAt floor top filter.now bytes.now fault.place) }
 {
     let windows = Windows {
         floor,

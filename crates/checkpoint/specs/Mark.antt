@@ -29,13 +29,16 @@ cursor_text (After source key) = decimal source ++ codes "/" ++ key_text key
 abbrev pub mark_text : Mark → List ℕ
 mark_text (Online scn) = codes "{\"mode\":\"online\",\"scn\":" ++ decimal scn ++ codes "}"
 mark_text (Delta since target cursor) =
-    codes "{\"cursor\":\"" ++ cursor_text cursor ++ codes "\",\"mode\":\"delta\",\"since\":" ++ decimal since ++ codes ",\"target\":" ++ decimal target ++ codes "}"
+    codes "{\"cursor\":\"" ++ cursor_text cursor ++ codes "\",\"mode\":\"delta\",\"since\":" ++ decimal since ++ codes ",\"target\":"
+    ++ decimal target ++ codes "}"
 mark_text (Snapshot since start top cursor) =
-    codes "{\"cursor\":\"" ++ cursor_text cursor ++ codes "\",\"mode\":\"snapshot\",\"since\":" ++ decimal since ++ codes ",\"start\":" ++ decimal start ++ codes ",\"top\":" ++ decimal top ++ codes "}"
+    codes "{\"cursor\":\"" ++ cursor_text cursor ++ codes "\",\"mode\":\"snapshot\",\"since\":" ++ decimal since ++ codes ",\"start\":"
+    ++ decimal start ++ codes ",\"top\":" ++ decimal top ++ codes "}"
 mark_text (Scanned since start top) =
     codes "{\"mode\":\"scanned\",\"since\":" ++ decimal since ++ codes ",\"start\":" ++ decimal start ++ codes ",\"top\":" ++ decimal top ++ codes "}"
 mark_text (Catchup since start target at) =
-    codes "{\"at\":" ++ decimal at ++ codes ",\"mode\":\"catchup\",\"since\":" ++ decimal since ++ codes ",\"start\":" ++ decimal start ++ codes ",\"target\":" ++ decimal target ++ codes "}"
+    codes "{\"at\":" ++ decimal at ++ codes ",\"mode\":\"catchup\",\"since\":" ++ decimal since ++ codes ",\"start\":" ++ decimal start
+    ++ codes ",\"target\":" ++ decimal target ++ codes "}"
 
 -- bytes that may be the text of a mark, by their number and the first of them: no text of a mark has fewer or more, and each
 -- begins with a brace

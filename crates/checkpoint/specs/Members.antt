@@ -20,13 +20,20 @@ number_data n = number (unsigned n)
 abbrev pub data_of : Mark → Data
 data_of (Online scn) = object (member (codes "mode") (string (codes "online")) (member (codes "scn") (number_data scn) no_members))
 data_of (Delta since target cursor) =
-    object (member (codes "cursor") (string (cursor_text cursor)) (member (codes "mode") (string (codes "delta")) (member (codes "since") (number_data since)
+    object (member (codes "cursor") (string (cursor_text cursor))
+    (member (codes "mode") (string (codes "delta"))
+    (member (codes "since") (number_data since)
     (member (codes "target") (number_data target) no_members))))
 data_of (Snapshot since start top cursor) =
-    object (member (codes "cursor") (string (cursor_text cursor)) (member (codes "mode") (string (codes "snapshot")) (member (codes "since") (number_data since)
-    (member (codes "start") (number_data start) (member (codes "top") (number_data top) no_members)))))
+    object (member (codes "cursor") (string (cursor_text cursor))
+    (member (codes "mode") (string (codes "snapshot"))
+    (member (codes "since") (number_data since)
+    (member (codes "start") (number_data start)
+    (member (codes "top") (number_data top) no_members)))))
 data_of (Scanned since start top) =
-    object (member (codes "mode") (string (codes "scanned")) (member (codes "since") (number_data since) (member (codes "start") (number_data start)
+    object (member (codes "mode") (string (codes "scanned"))
+    (member (codes "since") (number_data since)
+    (member (codes "start") (number_data start)
     (member (codes "top") (number_data top) no_members))))
 data_of (Catchup since start target at) =
     object (member (codes "at") (number_data at) (member (codes "mode") (string (codes "catchup")) (member (codes "since") (number_data since)

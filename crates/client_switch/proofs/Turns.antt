@@ -24,6 +24,7 @@ use Rattle.event_codec.specs.Parsing.{events_of}
 use Rattle.event_codec.specs.Questions.{Reply}
 use Rattle.event_codec.specs.Questions.Reply.{Windows, Rows, Changes, Only}
 use Rattle.event_codec.specs.ReplyViews.{view_of, Spells}
+use Rattle.event_codec.proofs.Parsings.{changes_again}
 use Rattle.checkpoint.specs.declared.mark.Mark.{Mark}
 use Rattle.checkpoint.specs.declared.mark.Mark.TheVariants.{Online, Delta, Snapshot, Scanned, Catchup}
 use Rattle.checkpoint.specs.Mark.{IsCursor, IsMark, floor_of}
@@ -230,10 +231,6 @@ lawful mark (Changes cs scn more) is can = changes_lawful mark cs scn more is ca
 lawful mark (Only answer) is can = answer_lawful mark answer is can
 
 -- ---- the changes of a reply
-
-changes_again : (n : ℕ) (cs : List Change) → map (λ (e : Event). e.change) (events_of n cs) ≡ cs
-changes_again n [] = refl
-changes_again n (c ∷ cs) = ap (λ (x : List Change). c ∷ x) (changes_again n cs)
 
 -- the changes of rows and of changes, as they are read
 rows_in : (view : ReplyView) (run : List Event) (n : ℕ) (more : Bool) (r : Reply) → view ≡ views.Rows run n more → view ≡ view_of r → map (λ (e : Event). e.change) run ≡ items_of r

@@ -84,14 +84,17 @@ checkpoint_calls t = if t.commits then taken (OnCheckpoint (mark_text t.mark)) �
 
 -- the callbacks of a reply were called in order, and then these calls were made
 abbrev pub CallsAll : Shape → List ℕ → List Call → Option (List Call) → Option (List Call) → Type 0
-CallsAll shape bytes behind before after = (callbacks : List Callback) → Describes shape bytes callbacks → after ≡ with_calls (map taken callbacks ++ behind) before
+CallsAll shape bytes behind before after = (callbacks : List Callback) → Describes shape bytes callbacks
+    → after ≡ with_calls (map taken callbacks ++ behind) before
 
 -- one callback of a reply was refused, and then the consumer was told to go back
 abbrev pub CallsSome : ℕ → Shape → List ℕ → ℕ → Option (List Call) → Option (List Call) → Type 0
-CallsSome scn shape bytes floor before after = (callbacks : List Callback) → Describes shape bytes callbacks → StopsAt scn callbacks (taken (OnRollback floor) ∷ []) before after
+CallsSome scn shape bytes floor before after = (callbacks : List Callback) → Describes shape bytes callbacks
+    → StopsAt scn callbacks (taken (OnRollback floor) ∷ []) before after
 
 -- a lawful reply was taken
-pub record TakesIt (took : Took) (old new : Held) (ask : Ask) (bytes : List ℕ) (kept keeps : KeeperState) (before after : Option (List Call)) : Type 0 where
+pub record TakesIt (took : Took) (old new : Held) (ask : Ask) (bytes : List ℕ) (kept keeps : KeeperState)
+    (before after : Option (List Call)) : Type 0 where
   pub reply : Reply
   pub lawful : IsLawful ask bytes took.shape
   pub is : IsReply took.shape bytes reply
@@ -107,13 +110,15 @@ pub record Refuses (old new : Held) (kept keeps : KeeperState) (before after : O
   pub calls : after ≡ before
 
 -- the reply isn't lawful: its first item that can't stand is at this place
-pub record RefusesReply (found : ℕ) (old new : Held) (ask : Ask) (bytes : List ℕ) (kept keeps : KeeperState) (before after : Option (List Call)) : Type 0 where
+pub record RefusesReply (found : ℕ) (old new : Held) (ask : Ask) (bytes : List ℕ) (kept keeps : KeeperState)
+    (before after : Option (List Call)) : Type 0 where
   pub nothing : Refuses old new kept keeps before after
   pub place : IsFaultAt ask bytes found
   pub unlawful : (shape : Shape) → IsLawful ask bytes shape → ⊥
 
 -- the consumer refused a callback with this SCN: client and keeper are as before
-pub record IsRefused (scn : ℕ) (old new : Held) (ask : Ask) (bytes : List ℕ) (kept keeps : KeeperState) (before after : Option (List Call)) : Type 0 where
+pub record IsRefused (scn : ℕ) (old new : Held) (ask : Ask) (bytes : List ℕ) (kept keeps : KeeperState)
+    (before after : Option (List Call)) : Type 0 where
   pub shape : Shape
   pub lawful : IsLawful ask bytes shape
   pub client : new ≡ old

@@ -163,7 +163,8 @@ mark_after mark (shapes.Only answer) cs = mark
 -- ---- behind the callbacks of a reply
 
 -- its turn was made
-pub record Settled (took : Took) (old new : Held) (shape : Shape) (reply : Reply) (kept keeps : KeeperState) (before after : Option (List Call)) : Type 0 where
+pub record Settled (took : Took) (old new : Held) (shape : Shape) (reply : Reply) (kept keeps : KeeperState)
+    (before after : Option (List Call)) : Type 0 where
   pub same : took.shape ≡ shape
   pub committed : took.committed ≡ (turn old.mark reply).commits
   pub client : new ≡ record old { mark = (turn old.mark reply).mark; wish = (turn old.mark reply).wish }
@@ -185,8 +186,10 @@ pub record GoesBack (old new : Held) (kept keeps : KeeperState) (before after : 
   pub calls : after ≡ with_calls (taken (OnRollback (floor_of old.mark)) ∷ []) before
 
 -- what a reply whose callbacks were taken makes, by the answer of `take`
-abbrev pub Settles : Result Took TakeFault → Held → Held → Shape → List ℕ → KeeperState → KeeperState → Option (List Call) → Option (List Call) → Type 0
-Settles (Ok took) old new shape bytes kept keeps before after = (r : Reply) → IsReply shape bytes r → Settled took old new shape r kept keeps before after
+abbrev pub Settles : Result Took TakeFault → Held → Held → Shape → List ℕ → KeeperState → KeeperState → Option (List Call)
+    → Option (List Call) → Type 0
+Settles (Ok took) old new shape bytes kept keeps before after = (r : Reply) → IsReply shape bytes r
+    → Settled took old new shape r kept keeps before after
 Settles (Err Halted) old new shape bytes kept keeps before after = ⊥
 Settles (Err (BadReply place)) old new shape bytes kept keeps before after = ⊥
 Settles (Err (Refused scn)) old new shape bytes kept keeps before after = ⊥

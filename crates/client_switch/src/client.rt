@@ -244,7 +244,8 @@ impl Client {
     ) -> Result<Took, TakeFault>
         requires { (most : ℕ) × IsAskOf self.old.filter (asks self.old most) ask.now }
         ensures halted { IsErrOf result TakeFault.Halted ↔ (self.old.halted ≡ true) }
-        ensures takes { Takes result self.old self.new ask.now reply.now (K.state keeper.old) (K.state keeper.new) (C.calls consumer.old) (C.calls consumer.new) }
+        ensures takes { Takes result self.old self.new ask.now reply.now (K.state keeper.old) (K.state keeper.new) (C.calls consumer.old)
+            (C.calls consumer.new) }
         ensures refusals { HasRefusal (C.refusals consumer.old) (C.refusals consumer.new) result }
         ensures counts { CountsKept (K.state keeper.old) (K.state keeper.new) }
         ensures keeps { Keeps (K.state keeper.old) self.old.mark → self.new.halted ≡ false → Keeps (K.state keeper.new) self.new.mark }
@@ -277,7 +278,8 @@ impl Client {
         consumer: &mut C,
     ) -> Result<Took, TakeFault>
         requires { HoldsComing self.old.mark shape.now reply.now }
-        ensures settles { Settles result self.old self.new shape.now reply.now (K.state keeper.old) (K.state keeper.new) (C.calls consumer.old) (C.calls consumer.new) }
+        ensures settles { Settles result self.old self.new shape.now reply.now (K.state keeper.old) (K.state keeper.new)
+            (C.calls consumer.old) (C.calls consumer.new) }
         ensures counts { CountsKept (K.state keeper.old) (K.state keeper.new) }
         ensures later { C.refusals consumer.old ≤ C.refusals consumer.new }
     {

@@ -40,8 +40,10 @@ pub fn worked_moves()
         ≡ record { mark = Replaying 0 10 40 20; commits = true; clear = false; batch = put 1 ∷ []; wish = NoWish } }
     ensures ends_replay { turn (Replaying 0 10 40 20) (Windows (window 30 20 (put 1 ∷ []) ∷ window 40 30 (put 2 ∷ []) ∷ []))
         ≡ record { mark = Online 40; commits = true; clear = false; batch = put 1 ∷ put 2 ∷ []; wish = NoWish } }
-    ensures log_gone { (ws : List Span) → boot_reply ws everything (record { base = 10; applied = 10; high = 40 }) (Start 0 false) ≡ Only (StartSnapshot 10) }
-    ensures log_there { (ws : List Span) → boot_reply ws everything (record { base = 0; applied = 10; high = 40 }) (Start 0 false) ≡ Only (StartDelta 40) }
+    ensures log_gone { (ws : List Span) → boot_reply ws everything (record { base = 10; applied = 10; high = 40 }) (Start 0 false)
+        ≡ Only (StartSnapshot 10) }
+    ensures log_there { (ws : List Span) → boot_reply ws everything (record { base = 0; applied = 10; high = 40 }) (Start 0 false)
+        ≡ Only (StartDelta 40) }
     ensures behind { (ws : List Span) → boot_reply ws everything (record { base = 0; applied = 10; high = 40 }) (Start 40 false) ≡ Only (Behind 40) }
     ensures chunk { chunk_of (λ rows more. Rows rows 10 more) 34 (put 1 ∷ put 2 ∷ []) ≡ Rows (put 1 ∷ []) 10 true }
     ensures whole_chunk { chunk_of (λ rows more. Rows rows 10 more) 58 (put 1 ∷ put 2 ∷ []) ≡ Rows (put 1 ∷ put 2 ∷ []) 10 false }

@@ -14,7 +14,8 @@ use Rattle.event_codec.specs.Forms.{bytes_of, shape_of}
 -- the chunk of the last changes behind a cursor, in at most so many bytes: of each accepted row that changes in the windows with
 -- since < SCN <= target its last change there, in order of name, with the SCN of the target
 abbrev pub delta_chunk : Test → ℕ → ℕ → Cursor → ℕ → List Span → Reply
-delta_chunk test since target cursor most ws = chunk_of (λ cs more. Changes cs target more) most (changes_after cursor (last_changes ws test since target))
+delta_chunk test since target cursor most ws =
+    chunk_of (λ cs more. Changes cs target more) most (changes_after cursor (last_changes ws test since target))
 
 -- a reply was appended, and this is told of it
 pub record Appends (reply : Reply) (shape : Shape) (old new : List ℕ) : Type 0 where

@@ -40,7 +40,8 @@ pub fn delta<G: WindowLog>(
     requires low { (G.state log.old).floor ≤ since }
     requires order { since < target }
     requires high { target ≤ (G.state log.old).high }
-    ensures delta { IfOk result (λ shape. IfSome (G.state log.old).windows (λ ws. Appends (delta_chunk (test_of filter.now) since target cursor.now max ws) shape reply.old.items reply.new.items)) }
+    ensures delta { IfOk result (λ shape. IfSome (G.state log.old).windows
+        (λ ws. Appends (delta_chunk (test_of filter.now) since target cursor.now max ws) shape reply.old.items reply.new.items)) }
 
     // Whatever the log tells, it is the chunk of some windows between the two SCNs.
     ensures some { IfOk result (λ shape. AppendsSome (test_of filter.now) since target cursor.now max shape reply.old.items reply.new.items) }
@@ -84,7 +85,8 @@ fn append_delta<G: WindowLog>(
 ) -> Result<Shape, LogFault>
     requires low { (G.state log.old).floor ≤ since }
     requires high { target ≤ (G.state log.old).high }
-    ensures delta { IfOk result (λ shape. IfSome (G.state log.old).windows (λ ws. Appends (delta_chunk (test_of filter.now) since target cursor.now max ws) shape reply.old.items reply.new.items)) }
+    ensures delta { IfOk result (λ shape. IfSome (G.state log.old).windows
+        (λ ws. Appends (delta_chunk (test_of filter.now) since target cursor.now max ws) shape reply.old.items reply.new.items)) }
     ensures some { IfOk result (λ shape. AppendsSome (test_of filter.now) since target cursor.now max shape reply.old.items reply.new.items) }
     ensures reads { OnlyReads (G.state log.old) (G.state log.new) result }
     ensures crash { IfSome (G.state log.old).windows (λ ws. G.passes ws (at_rest (G.state log.old)) log.old log.new) }

@@ -82,7 +82,8 @@ fn put_entry(
     reply: &mut Vec<u8>,
 ) -> Result<(), NoMemory>
     requires { filling.old.count + filling.old.room < 2 ^ 32 }
-    ensures ok { OnOk result (filled reply.new.items filling.new ≡ with_next scn (filled reply.old.items filling.old) (record { source = name.source; key = name.key; put = put })) }
+    ensures ok { OnOk result (filled reply.new.items filling.new
+        ≡ with_next scn (filled reply.old.items filling.old) (record { source = name.source; key = name.key; put = put })) }
     ensures small { filling.new.count + filling.new.room ≤ filling.old.count + filling.old.room }
     ensures front { Extends reply.old.items reply.new.items }
 {

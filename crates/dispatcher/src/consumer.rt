@@ -34,7 +34,8 @@ pub trait Consumer {
 
     /// An event of the window or run of this SCN.
     fn on_event(&mut self, scn: u64, event: &EventView<'_>) -> Result<(), Refusal>
-        ensures calls { calls self.new ≡ with_calls (record { callback = OnEvent scn (event_of event.now); refused = is_err result } ∷ []) (calls self.old) }
+        ensures calls { calls self.new ≡ with_calls (record { callback = OnEvent scn (event_of event.now); refused = is_err result } ∷ [])
+            (calls self.old) }
         ensures cause { HasCause (refusals self.old) (refusals self.new) result };
 
     /// The window or run of this SCN ends.

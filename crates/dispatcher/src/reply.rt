@@ -61,7 +61,8 @@ pub fn dispatch<C: Consumer>(
     floor: u64,
 ) -> Result<(), Refused>
     requires { (callbacks : List Callback) × Describes shape.now bytes.now callbacks }
-    ensures told { (callbacks : List Callback) → Describes shape.now bytes.now callbacks → Dispatched result callbacks floor (C.calls consumer.old) (C.calls consumer.new) }
+    ensures told { (callbacks : List Callback) → Describes shape.now bytes.now callbacks
+        → Dispatched result callbacks floor (C.calls consumer.old) (C.calls consumer.new) }
     ensures cause { HasCause (C.refusals consumer.old) (C.refusals consumer.new) result }
 {
     dispatch_reply(consumer, &ReplyView::of(shape, bytes), floor)

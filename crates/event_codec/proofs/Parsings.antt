@@ -86,7 +86,7 @@ pub events_within : (n : ℕ) (cs : List Change) → 0 < n → n ≤ MAX_SCN →
 events_within n [] positive bound are = tt
 events_within n (c ∷ cs) positive bound are = (is_event n c positive bound are.0, events_within n cs positive bound are.1)
 
-changes_again : (n : ℕ) (cs : List Change) → map (λ (e : Event). e.change) (events_of n cs) ≡ cs
+pub changes_again : (n : ℕ) (cs : List Change) → map (λ (e : Event). e.change) (events_of n cs) ≡ cs
 changes_again n [] = refl
 changes_again n (c ∷ cs) = ap (λ (x : List Change). c ∷ x) (changes_again n cs)
 

@@ -93,7 +93,8 @@ open_in e = record { scn = e.scn; count = e.count; size = e.size }
 abbrev pub Shows : Item → Front → Type 0
 Shows items.Unfinished front = front ≡ Unfinished
 Shows items.Refused front = front ≡ Refused
-Shows (items.Event scn source key size) front = (put : Option (List ℕ)) × (front ≡ AnEvent scn (record { source = source; key = Long key; put = put }) size)
+Shows (items.Event scn source key size) front = (put : Option (List ℕ))
+    × (front ≡ AnEvent scn (record { source = source; key = Long key; put = put }) size)
 Shows (items.Mark scn prev) front = front ≡ AMark scn prev
 
 -- the window has room for an event with so long a payload, and for its mark

@@ -10,7 +10,8 @@ ghost use Rattle.event_codec.specs.Frames.{Closing, IsClosing, closing_bytes, Is
 /// A law of the bytes of windows: none is a front of another's, so a stream of windows is read in one way only, and
 /// each window has one spelling.
 pub fn no_window_begins_another()
-    ensures { (one other : Span) (rest : List ℕ) → IsSpan one → IsSpan other → window_bytes other ≡ window_bytes one ++ rest → (one ≡ other) × (rest ≡ []) }
+    ensures { (one other : Span) (rest : List ℕ) → IsSpan one → IsSpan other → window_bytes other ≡ window_bytes one ++ rest
+        → (one ≡ other) × (rest ≡ []) }
 {}
 
 /// A law of the items of a reply: at a place stands one event at most or one mark at most, and never both, and each

@@ -20,7 +20,8 @@ use Rattle.bootstrap_core.specs.Opening.{IsOpened, OpensNot}
 use Rattle.bootstrap_core.proofs.Opened.{stands_again}
 use Rattle.bootstrap_core.specs.Moving.{AppliesNext, Trims}
 use Rattle.history_core.specs.Bus.{boot_numbers, IsBooted}
-use Rattle.history_core.specs.Booting.{MemoryParts, AreParts, BootedAt, end_after, logged_to, applied_to, trimmed_to, CanLog}
+use Rattle.history_core.specs.Steps.{end_after}
+use Rattle.history_core.specs.Booting.{MemoryParts, AreParts, BootedAt, logged_to, applied_to, trimmed_to, CanLog}
 use Rattle.history_core.proofs.Booted.{stops_of, log_kept, keeper_kept}
 use Rattle.history_core.proofs.LogRuns.{end_on, end_later, end_still}
 

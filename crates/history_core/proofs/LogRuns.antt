@@ -20,7 +20,8 @@ use Rattle.event_codec.specs.Reply.{AreTold, IsServed, reply_bytes}
 use Rattle.bus_wire.specs.Served.{Serves}
 use Rattle.bus_wire.proofs.Replies.{relay_serves, place_is_window}
 use Rattle.bootstrap_core.specs.Logging.{most_bytes, IsChained}
-use Rattle.history_core.specs.Booting.{end_after, HasNext, IsNextReply}
+use Rattle.history_core.specs.Steps.{end_after}
+use Rattle.history_core.specs.Booting.{HasNext, IsNextReply}
 
 -- ---- step by step
 

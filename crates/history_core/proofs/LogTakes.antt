@@ -26,8 +26,10 @@ use Rattle.bootstrap_core.specs.declared.fault.TakeLog.{TakeLog}
 use Rattle.bootstrap_core.specs.declared.fault.TakeLog.TheVariants.{BadReply, Gap, Full, LogFailed, Halted, NoMemory}
 use Rattle.bootstrap_core.specs.Boot.{BootState, told, Stands}
 use Rattle.bootstrap_core.specs.Logging.{log_ask, AreWindowsBehind, IsChained, Logs, Fills, TakesLog}
+use Rattle.event_codec.proofs.Streams.{come_spans}
 use Rattle.history_core.specs.Bus.{boot_numbers}
-use Rattle.history_core.specs.Booting.{MemoryParts, end_after, BootedAt, CanLog, HasNext, IsNextReply, CanTake}
+use Rattle.history_core.specs.Steps.{end_after}
+use Rattle.history_core.specs.Booting.{MemoryParts, BootedAt, CanLog, HasNext, IsNextReply, CanTake}
 use Rattle.history_core.proofs.Booted.{stops_of, log_kept, keeper_kept}
 use Rattle.history_core.proofs.LogRuns.{total_bound, fewer_between, place_follows, chained_of}
 
@@ -35,10 +37,6 @@ all_at : {X : Type 0} (P : X → Type 0) (xs : List X) (i : ℕ) (x : X) → sli
 all_at P [] i x e h = absurd cc
 all_at P (y ∷ ys) zero x e h = subst P (let same : y ≡ x = cc in same) h.0
 all_at P (y ∷ ys) (suc i) x e h = all_at P ys i x e h.1
-
-spans : (s : Since) (ws : List Span) → Come s ws → AllByRecursion IsSpan ws
-spans s [] come = tt
-spans s (w ∷ ws) come = (come.0.within, spans (after_window s w) ws come.1)
 
 -- the relay keeps a window behind those that are logged
 pub has_next : (ws : List Span) (r : Relay) (b : MemoryParts) (n : ℕ) → CanLog ws r b → n ≡ (boot_numbers b).high → n < r.tail → HasNext ws r n
@@ -118,7 +116,7 @@ module _ (ws : List Span) (end count : ℕ) (b : MemoryParts) (bytes : List ℕ)
       let standing = stands (fills.logged.halted ∙ can.booted.runs) in
       let low = after.log.floor in
       let newest = (boot_numbers after).high in
-      let span = all_at IsSpan fills.windows fills.done fills.next fills.is_next (spans (after_floor high) fills.windows fills.are.run.asked.come) in
+      let span = all_at IsSpan fills.windows fills.done fills.next fills.is_next (come_spans (after_floor high) fills.windows fills.are.run.asked.come) in
       let size = span.size in
       let need_is = fills.need_is in
       let held = ap total_size standing.stretch.windows in

@@ -40,7 +40,8 @@ use Rattle.bus_wire.specs.Lawful.{IsLawful, after_floor}
 use Rattle.bus_wire.specs.Served.{Serves}
 use Rattle.bus_wire.specs.True.{Boot, IsBoot, reply_of, replay_of, boot_reply, IsTrueOf}
 use Rattle.bus_wire.proofs.Booting.{boots_lawfully}
-use Rattle.bus_wire.proofs.Reading.{come_spans, one_reply}
+use Rattle.event_codec.proofs.Streams.{come_spans}
+use Rattle.bus_wire.proofs.Reading.{one_reply}
 use Rattle.bus_wire.proofs.Replies.{place_is_window, relay_serves}
 use Rattle.bus_wire.proofs.Uniqueness.{one_shape}
 use Rattle.checkpoint.specs.declared.mark.Mark.{Mark}

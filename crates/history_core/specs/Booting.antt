@@ -8,7 +8,7 @@ use Rattle.bus_stores.specs.MemoryLog.{MemoryWindows}
 use Rattle.bus_wire.specs.True.{Boot}
 use Rattle.bootstrap_core.specs.Boot.{BootParts}
 use Rattle.bootstrap_core.specs.Logging.{AreWindowsBehind, IsRelayReply}
-use Rattle.history_core.specs.Steps.{most_commits}
+use Rattle.history_core.specs.Steps.{most_commits, end_after}
 use Rattle.history_core.specs.Bus.{boot_numbers, IsBooted}
 
 -- a bootstrap in memory
@@ -25,10 +25,6 @@ pub record AreParts (ws : List Span) (b : MemoryParts) (log : MemoryWindows) (ke
 pub record BootedAt (ws : List Span) (numbers : Boot) (b : MemoryParts) : Type 0 where
   pub booted : IsBooted ws b
   pub is : boot_numbers b ≡ numbers
-
--- the SCN of the last of the first so many windows behind an SCN up to another, or the SCN
-abbrev pub end_after : List Span → ℕ → ℕ → ℕ → ℕ
-end_after ws scn end count = end_from scn (take count (windows_between scn end ws))
 
 -- the numbers after so many more of the windows that a relay published were logged
 abbrev pub logged_to : List Span → Relay → Boot → ℕ → Boot

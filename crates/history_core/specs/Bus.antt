@@ -42,7 +42,15 @@ pub record Parts : Type 0 where
 
 -- a consumer without its rows
 abbrev pub follower : MemberState → Follower
-follower m = record { name = m.name; filter = m.client.filter; mark = m.client.mark; wish = m.client.wish; armed = m.store.armed; marks = m.store.marks; shows = m.shows }
+follower m = record {
+  name = m.name;
+  filter = m.client.filter;
+  mark = m.client.mark;
+  wish = m.client.wish;
+  armed = m.store.armed;
+  marks = m.store.marks;
+  shows = m.shows;
+}
 
 abbrev pub followers : List MemberState → List Follower
 followers ms = map follower ms
@@ -53,7 +61,14 @@ boot_numbers b = numbers (log_of b.log) b.mark
 
 -- the state of the script whose bus it is
 abbrev pub state_of : Parts → State
-state_of b = record { begun = b.begun; windows = b.source; room = b.relay.room; end = b.relay.tail; boot = boot_numbers b.boot; consumers = followers b.members }
+state_of b = record {
+  begun = b.begun;
+  windows = b.source;
+  room = b.relay.room;
+  end = b.relay.tail;
+  boot = boot_numbers b.boot;
+  consumers = followers b.members;
+}
 
 -- ---- when a bus is sound
 
@@ -65,7 +80,8 @@ IsHeaded ws (Snapshot since start top cursor) = Unit {0}
 IsHeaded ws (Scanned since start top) = Unit {0}
 IsHeaded ws (Catchup since start target at) = is_place target ws ≡ true
 
--- a consumer's client runs, and its wish is one that comes up at its mark; its keeper fails only at a stop that is armed, holds the client's mark, or none where no commit was
+-- a consumer's client runs, and its wish is one that comes up at its mark; its keeper fails only at a stop that is
+-- armed, holds the client's mark, or none where no commit was
 -- made, and rows that are good for it, and was called at least as often as its rows were shown
 pub record IsMember (ws : List Span) (m : MemberState) : Type 0 where
   pub runs : m.client.halted ≡ false
@@ -143,5 +159,6 @@ WasCalled m n = OnOnline m.client.mark (WasCounted m.store.calls n.store.calls)
 
 -- a line that shows a consumer's rows calls its keeper
 abbrev pub Calls : Line → Parts → Parts → Type 0
-Calls (Show name) old new = (i : ℕ) (m n : MemberState) → place_of name (followers old.members) ≡ Some i → slice_get old.members i ≡ Some m → slice_get new.members i ≡ Some n → WasCalled m n
+Calls (Show name) old new = (i : ℕ) (m n : MemberState) → place_of name (followers old.members) ≡ Some i
+    → slice_get old.members i ≡ Some m → slice_get new.members i ≡ Some n → WasCalled m n
 Calls line old new = Unit {0}

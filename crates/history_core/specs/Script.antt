@@ -106,7 +106,8 @@ abbrev pub row_line : RowName × List ℕ → List ℕ
 row_line row = decimal row.0.source ++ codes "/" ++ key_text row.0.key ++ codes "=" ++ encode_lower row.1 ++ codes "\n"
 
 abbrev pub rows_text : List ℕ → ℕ → RowList → List ℕ
-rows_text name scn rows = codes "show " ++ name ++ codes " online " ++ decimal scn ++ codes " " ++ decimal (length rows) ++ codes "\n" ++ flat_map row_line rows
+rows_text name scn rows = codes "show " ++ name ++ codes " online " ++ decimal scn ++ codes " " ++ decimal (length rows) ++ codes "\n"
+    ++ flat_map row_line rows
 
 -- what is shown of a consumer: online, its SCN and the view there; else its mode alone
 abbrev pub shown : List Span → Follower → Mark → List ℕ

@@ -8,7 +8,7 @@ use Rattle.bus_types.specs.Relay.{stream}
 use Rattle.partition_filter.specs.Selection.{Selection, test_of}
 use Rattle.bus_stores.specs.declared.keeper.Stop.{Stop}
 use Rattle.bus_stores.specs.declared.keeper.Stop.TheVariants.{Before, After}
-use Rattle.bus_stores.specs.Memory.{next_count}
+use Rattle.bus_types.specs.Counting.{next_count}
 use Rattle.checkpoint.specs.declared.mark.Mark.{Mark}
 use Rattle.checkpoint.specs.declared.mark.Mark.TheVariants.{Online}
 use Rattle.checkpoint.specs.Mark.{mark_text}
@@ -78,9 +78,13 @@ commit_step s scn changes =
     else if nat_le most_commits (length s.windows) then None
     else Some (record s { windows = s.windows ++ w ∷ [] }, [])
 
+-- the SCN of the last of the first so many windows behind an SCN up to another, or the SCN
+abbrev pub end_after : List Span → ℕ → ℕ → ℕ → ℕ
+end_after ws scn end count = end_from scn (take count (windows_between scn end ws))
+
 -- the newest published SCN after the relay published so many more commits, or those there are
 abbrev pub fed : State → ℕ → ℕ
-fed s count = end_from s.end (take count (windows_between s.end (end_of s.windows) s.windows))
+fed s count = end_after s.windows s.end (end_of s.windows) count
 
 unfoldable pub feed_step : State → ℕ → Step
 feed_step s count = let next = record s { end = fed s count } in Some (next, relay_line (floor next) next.end)
@@ -97,7 +101,7 @@ booted s b = (record s { boot = b }, numbers_line b)
 
 -- the SCN of the newest logged window after so many more of the windows that the relay published were logged, or those there are
 abbrev pub logged : State → ℕ → ℕ
-logged s count = end_from s.boot.high (take count (windows_between s.boot.high s.end s.windows))
+logged s count = end_after s.windows s.boot.high s.end count
 
 -- where the relay has evicted windows that weren't logged, it says so
 unfoldable pub log_step : State → ℕ → Step
@@ -105,7 +109,7 @@ log_step s count = Some (if nat_lt s.boot.high (floor s) then (s, gap_line (floo
 
 -- the SCN up to which windows are applied after so many more of the logged ones were, or those there are
 abbrev pub applied : State → ℕ → ℕ
-applied s count = end_from s.boot.applied (take count (windows_between s.boot.applied s.boot.high s.windows))
+applied s count = end_after s.windows s.boot.applied s.boot.high count
 
 unfoldable pub apply_step : State → ℕ → Step
 apply_step s count = Some (booted s (record s.boot { applied = applied s count }))

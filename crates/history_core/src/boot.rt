@@ -6,7 +6,8 @@ ghost use Rattle.bus_wire.specs.Asks.{question_of, test_in, AsksBootstrap};
 ghost use Rattle.bus_wire.specs.True.{boot_reply};
 ghost use Rattle.history_core.specs.Script.{start};
 ghost use Rattle.history_core.specs.Bus.{boot_numbers, IsBooted};
-ghost use Rattle.history_core.specs.Booting.{MemoryParts, AreParts, BootedAt, logged_to, applied_to, trimmed_to, end_after, CanLog, HasNext, IsNextReply, CanTake};
+ghost use Rattle.history_core.specs.Steps.{end_after};
+ghost use Rattle.history_core.specs.Booting.{MemoryParts, AreParts, BootedAt, logged_to, applied_to, trimmed_to, CanLog, HasNext, IsNextReply, CanTake};
 
 use bootstrap_core::{Boot, BootFault, BootOpen, TakeLog};
 use bus_stores::{MemoryKeeper, MemoryLog};
@@ -70,7 +71,8 @@ pub(crate) fn log_windows<B: Buffer>(
     count: u64,
 ) -> Result<(), NoMemory>
     requires { (ws : List Span) × CanLog ws (B.relay relay.now) boot.old }
-    ensures { OnOk result ((ws : List Span) → CanLog ws (B.relay relay.now) boot.old → BootedAt ws (logged_to ws (B.relay relay.now) (boot_numbers boot.old) count) boot.new) }
+    ensures { OnOk result ((ws : List Span) → CanLog ws (B.relay relay.now) boot.old
+        → BootedAt ws (logged_to ws (B.relay relay.now) (boot_numbers boot.old) count) boot.new) }
 {
     let mut left = count;
     while left > 0 {
@@ -91,7 +93,8 @@ fn log_some<B: Buffer>(
     requires can { (ws : List Span) × CanLog ws (B.relay relay.now) boot.old }
     ensures some { IfOk result (λ n. 1 ≤ n) }
     ensures most { IfOk result (λ n. n ≤ most) }
-    ensures logs { IfOk result (λ n. (ws : List Span) → CanLog ws (B.relay relay.now) boot.old → BootedAt ws (logged_to ws (B.relay relay.now) (boot_numbers boot.old) n) boot.new) }
+    ensures logs { IfOk result (λ n. (ws : List Span) → CanLog ws (B.relay relay.now) boot.old
+        → BootedAt ws (logged_to ws (B.relay relay.now) (boot_numbers boot.old) n) boot.new) }
 {
     if relay.tail() <= boot.high() {
         return Ok(most);
@@ -125,7 +128,8 @@ fn next_reply<B: Buffer>(alloc: Global, relay: &B, scn: u64) -> Result<(Vec<u8>,
 // Logs the first windows of a reply.
 fn take(alloc: Global, boot: &mut MemoryBoot, reply: &[u8], count: u32) -> Result<(), NoMemory>
     requires { (ws : List Span) × (end : ℕ) × CanTake ws end count boot.old reply.now }
-    ensures { OnOk result ((ws : List Span) (end : ℕ) → CanTake ws end count boot.old reply.now → BootedAt ws (record (boot_numbers boot.old) { high = end_after ws (boot_numbers boot.old).high end count }) boot.new) }
+    ensures { OnOk result ((ws : List Span) (end : ℕ) → CanTake ws end count boot.old reply.now
+        → BootedAt ws (record (boot_numbers boot.old) { high = end_after ws (boot_numbers boot.old).high end count }) boot.new) }
 {
     match boot.take_log(alloc, reply, count) {
         Ok(_) => Ok(()),
@@ -141,7 +145,8 @@ pub(crate) fn apply_windows(
     count: u64,
 ) -> Result<(), NoMemory>
     requires { (ws : List Span) × IsTimeline ws × IsBooted ws boot.old }
-    ensures { OnOk result ((ws : List Span) → IsTimeline ws → IsBooted ws boot.old → BootedAt ws (applied_to ws (boot_numbers boot.old) count) boot.new) }
+    ensures { OnOk result ((ws : List Span) → IsTimeline ws → IsBooted ws boot.old
+        → BootedAt ws (applied_to ws (boot_numbers boot.old) count) boot.new) }
 {
     let mut left = count;
     while left > 0 {
@@ -157,7 +162,8 @@ fn apply_some(alloc: Global, boot: &mut MemoryBoot, most: u64) -> Result<u64, No
     requires can { (ws : List Span) × IsTimeline ws × IsBooted ws boot.old }
     ensures some { IfOk result (λ n. 1 ≤ n) }
     ensures most { IfOk result (λ n. n ≤ most) }
-    ensures applies { IfOk result (λ n. (ws : List Span) → IsTimeline ws → IsBooted ws boot.old → BootedAt ws (applied_to ws (boot_numbers boot.old) n) boot.new) }
+    ensures applies { IfOk result (λ n. (ws : List Span) → IsTimeline ws → IsBooted ws boot.old
+        → BootedAt ws (applied_to ws (boot_numbers boot.old) n) boot.new) }
 {
     if boot.high() <= boot.applied() {
         return Ok(most);
@@ -172,7 +178,8 @@ fn apply(alloc: Global, boot: &mut MemoryBoot, count: u32) -> Result<(), NoMemor
     requires some { 1 ≤ count }
     requires few { count ≤ 32 }
     requires can { (ws : List Span) × IsTimeline ws × IsBooted ws boot.old }
-    ensures { OnOk result ((ws : List Span) → IsTimeline ws → IsBooted ws boot.old → BootedAt ws (applied_to ws (boot_numbers boot.old) count) boot.new) }
+    ensures { OnOk result ((ws : List Span) → IsTimeline ws → IsBooted ws boot.old
+        → BootedAt ws (applied_to ws (boot_numbers boot.old) count) boot.new) }
 {
     match boot.apply(alloc, count) {
         Ok(_) => Ok(()),
@@ -184,7 +191,8 @@ fn apply(alloc: Global, boot: &mut MemoryBoot, count: u32) -> Result<(), NoMemor
 /// Moves its base up to an SCN.
 pub(crate) fn trim(alloc: Global, boot: &mut MemoryBoot, scn: u64) -> Result<(), NoMemory>
     requires { (ws : List Span) × IsTimeline ws × IsBooted ws boot.old }
-    ensures { OnOk result ((ws : List Span) → IsTimeline ws → IsBooted ws boot.old → BootedAt ws (trimmed_to ws (boot_numbers boot.old) scn) boot.new) }
+    ensures { OnOk result ((ws : List Span) → IsTimeline ws → IsBooted ws boot.old
+        → BootedAt ws (trimmed_to ws (boot_numbers boot.old) scn) boot.new) }
 {
     match boot.trim(alloc, scn) {
         Ok(_) => Ok(()),
@@ -197,7 +205,8 @@ pub(crate) fn trim(alloc: Global, boot: &mut MemoryBoot, scn: u64) -> Result<(),
 pub(crate) fn answer(alloc: Global, boot: &mut MemoryBoot, ask: &Ask) -> Result<Vec<u8>, NoMemory>
     requires bootstrap { AsksBootstrap ask.now }
     requires booted { (ws : List Span) × IsTimeline ws × IsBooted ws boot.old }
-    ensures reply { IfOk result (λ reply. (ws : List Span) → IsTimeline ws → IsBooted ws boot.old → reply.items ≡ bytes_of (boot_reply ws (test_in ask.now) (boot_numbers boot.old) (question_of ask.now))) }
+    ensures reply { IfOk result (λ reply. (ws : List Span) → IsTimeline ws → IsBooted ws boot.old
+        → reply.items ≡ bytes_of (boot_reply ws (test_in ask.now) (boot_numbers boot.old) (question_of ask.now))) }
     ensures boot { OnOk result ((ws : List Span) → IsTimeline ws → IsBooted ws boot.old → BootedAt ws (boot_numbers boot.old) boot.new) }
 {
     let mut reply = Vec::new(alloc);

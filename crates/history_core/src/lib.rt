@@ -18,7 +18,8 @@ pub use bus::Bus;
 pub use fault::StepFault;
 pub use laws::consumers_never_go_back;
 pub use rows::{
-    worked_script_of_many_windows, worked_scripts, worked_scripts_of_a_bootstrap,
-    worked_scripts_of_a_relay, worked_scripts_of_stops, worked_scripts_of_streams,
+    worked_script_of_a_scan, worked_script_of_many_windows, worked_scripts,
+    worked_scripts_of_a_bootstrap, worked_scripts_of_a_delta, worked_scripts_of_a_relay,
+    worked_scripts_of_stops, worked_scripts_of_streams,
 };
 pub use worked::{worked_steps, worked_steps_of_a_bootstrap};

@@ -52,7 +52,8 @@ fn answer<B: Buffer>(
     ask: &Ask,
 ) -> Result<Vec<u8>, NoMemory>
     requires { (ws : List Span) × IsTimeline ws × IsBooted ws boot.old }
-    ensures reply { IfOk result (λ reply. (ws : List Span) → StandsFor ws (B.relay relay.now) → IsBooted ws boot.old → reply.items ≡ bytes_of (answered ws (B.relay relay.now) (boot_numbers boot.old) ask.now)) }
+    ensures reply { IfOk result (λ reply. (ws : List Span) → StandsFor ws (B.relay relay.now) → IsBooted ws boot.old
+        → reply.items ≡ bytes_of (answered ws (B.relay relay.now) (boot_numbers boot.old) ask.now)) }
     ensures boot { OnOk result ((ws : List Span) → IsTimeline ws → IsBooted ws boot.old → BootedAt ws (boot_numbers boot.old) boot.new) }
 {
     match ask {
@@ -85,7 +86,8 @@ impl Member {
         max: u32,
     ) -> Result<Vec<u8>, NoMemory>
         requires { (ws : List Span) × StandsFor ws (B.relay relay.now) × IsBooted ws boot.old × IsMember ws self.old }
-        ensures polls { IfOk result (λ text. (ws : List Span) → StandsFor ws (B.relay relay.now) → IsBooted ws boot.old → IsMember ws self.old → Polls ws (B.relay relay.now) (boot_numbers boot.old) max text.items self.old self.new) }
+        ensures polls { IfOk result (λ text. (ws : List Span) → StandsFor ws (B.relay relay.now) → IsBooted ws boot.old
+            → IsMember ws self.old → Polls ws (B.relay relay.now) (boot_numbers boot.old) max text.items self.old self.new) }
         ensures boot { OnOk result ((ws : List Span) → IsTimeline ws → IsBooted ws boot.old → BootedAt ws (boot_numbers boot.old) boot.new) }
     {
         let ask = self.ask(alloc, max)?;
@@ -108,7 +110,8 @@ impl Member {
     // Lets its client take the reply to what it asked.
     fn follow(&mut self, alloc: Global, ask: &Ask, reply: &[u8]) -> Result<Vec<u8>, NoMemory>
         requires { (ws : List Span) × (r : Relay) × (boot : Boot) × (most : ℕ) × Comes ws r boot most self.old ask.now reply.now }
-        ensures { IfOk result (λ text. (ws : List Span) (r : Relay) (boot : Boot) (most : ℕ) → Comes ws r boot most self.old ask.now reply.now → Polls ws r boot most text.items self.old self.new) }
+        ensures { IfOk result (λ text. (ws : List Span) (r : Relay) (boot : Boot) (most : ℕ)
+            → Comes ws r boot most self.old ask.now reply.now → Polls ws r boot most text.items self.old self.new) }
     {
         let stage = stage_of(self.client.mark());
         let armed = self.keeper.armed();

@@ -73,3 +73,17 @@ pub fn worked_scripts_of_a_bootstrap()
     ensures anew { outcome (codes "relay 1048576 1\nconsumer c all\ncommit 10 0/1=aa\nfeed 1\nlog 1\ncommit 20 0/2=bb\nfeed 1\nlog 1\npoll c 1000\npoll c 1000\n")
         ≡ (codes "relay 0 10\nboot 0 0 10\nrelay 10 20\nboot 0 0 20\nnotfound 10\nstart delta 0 20\n", Finished) }
 {}
+
+/// What a scan of a table that moves on and its replay mean, by computation from the definitions alone.
+pub fn worked_script_of_a_scan()
+    ensures { outcome (codes "relay 1048576 2\nconsumer c all\nshow c\ncommit 10 0/1=a1 0/2=a2 0/3=a3\nfeed 1\nlog 1\napply 1\ntrim 10\ncommit 20 0/1=b1\ncommit 30 0/2-\ncommit 40 0/4=a4\nfeed 2\nlog 2\nfeed 1\nlog 1\npoll c 1000\npoll c 1000\npoll c 34\napply 2\npoll c 1000\npoll c 1000\npoll c 1000\nshow c\n")
+        ≡ (codes "show c online 0 0\nrelay 0 10\nboot 0 0 10\nboot 0 10 10\nboot 10 10 10\nrelay 10 30\nboot 10 10 30\nrelay 20 40\nboot 10 10 40\nnotfound 20\nstart snapshot 10\nrows 1 34 at 10 more\nboot 10 30 40\nrows 1 34 at 30 scanned\ntarget 40 catchup\nreplay 3 122 online 40\nshow c online 40 3\n0/1=b1\n0/3=a3\n0/4=a4\n", Finished) }
+{}
+
+/// What some scripts of a delta mean, by computation from the definitions alone.
+pub fn worked_scripts_of_a_delta()
+    ensures at_once { outcome (codes "relay 1048576 2\nconsumer c all\nshow c\ncommit 10 0/1=a1 0/2=a2 0/3=a3\nfeed 1\nlog 1\napply 1\ncommit 20 0/1=b1\ncommit 30 0/2-\ncommit 40 0/4=a4\nfeed 2\nlog 2\nfeed 1\nlog 1\npoll c 1000\npoll c 1000\npoll c 57\npoll c 1000\nshow c\n")
+        ≡ (codes "show c online 0 0\nrelay 0 10\nboot 0 0 10\nboot 0 10 10\nrelay 10 30\nboot 0 10 30\nrelay 20 40\nboot 0 10 40\nnotfound 20\nstart delta 0 40\nchanges 2 57 more\nchanges 2 58 online 40\nshow c online 40 3\n0/1=b1\n0/3=a3\n0/4=a4\n", Finished) }
+    ensures behind_a_crash { outcome (codes "relay 1048576 2\nconsumer c all\nshow c\ncommit 10 0/1=a1 0/2=a2 0/3=a3\nfeed 1\nlog 1\napply 1\ncommit 20 0/1=b1\ncommit 30 0/2-\ncommit 40 0/4=a4\nfeed 2\nlog 2\nfeed 1\nlog 1\npoll c 1000\npoll c 1000\npoll c 57\ncrash c\nshow c\npoll c 1000\n")
+        ≡ (codes "show c online 0 0\nrelay 0 10\nboot 0 0 10\nboot 0 10 10\nrelay 10 30\nboot 0 10 30\nrelay 20 40\nboot 0 10 40\nnotfound 20\nstart delta 0 40\nchanges 2 57 more\nshow c delta\nchanges 2 58 online 40\n", Finished) }
+{}

@@ -96,7 +96,8 @@ BothTold relation (Some old) None = ⊥
 BothTold relation (Some old) (Some new) = relation old new
 
 -- the content after a call: so at `Ok`, and so at `Failed`
-abbrev pub Leaves : {X : Type 0} → Result X Failed → (List ℕ → List ℕ → Type 0) → (List ℕ → List ℕ → Type 0) → Option (List ℕ) → Option (List ℕ) → Type 0
+abbrev pub Leaves : {X : Type 0} → Result X Failed → (List ℕ → List ℕ → Type 0) → (List ℕ → List ℕ → Type 0) → Option (List ℕ)
+    → Option (List ℕ) → Type 0
 Leaves (Ok x) done failed old new = BothTold done old new
 Leaves (Err e) done failed old new = BothTold failed old new
 

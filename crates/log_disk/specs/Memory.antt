@@ -7,7 +7,7 @@ use Rattle.log_disk.specs.declared.memory.Call.TheVariants.{Write, Cut, Sync}
 use Rattle.log_disk.specs.declared.memory.Pick.{Pick}
 use Rattle.log_disk.specs.declared.memory.Pick.TheVariants as picks
 use Rattle.log_disk.specs.declared.memory.Range.{Range}
-use Rattle.log_disk.specs.Counts.{next_count}
+use Rattle.bus_types.specs.Counting.{next_count}
 use Rattle.log_disk.specs.Disk.{DiskState, Clock}
 use Rattle.log_disk.specs.Pending.{MayLeave, Content, lasting, Step, after_all, is_written}
 use Rattle.log_disk.specs.Pending.Step.{Wrote, CutTo, Synced}

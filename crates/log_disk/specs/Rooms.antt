@@ -5,7 +5,8 @@ use Rattle.log_disk.specs.declared.memory.Call.{Call}
 use Rattle.log_disk.specs.declared.memory.Range.{Range}
 
 -- each part has room for the bytes and the calls that may still come
-pub record AreRoomy (room left : ℕ) (start : Vec ℕ Global) (calls : Vec Call Global) (texts bytes synced : Vec ℕ Global) (written : Vec Range Global) : Type 0 where
+pub record AreRoomy (room left : ℕ) (start : Vec ℕ Global) (calls : Vec Call Global) (texts bytes synced : Vec ℕ Global)
+    (written : Vec Range Global) : Type 0 where
   pub for_calls : length calls.items + left ≤ vec_capacity calls
   pub for_ranges : length written.items + left ≤ vec_capacity written
   pub for_texts : length texts.items + room ≤ vec_capacity texts

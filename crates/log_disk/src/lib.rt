@@ -3,10 +3,10 @@
 //! through the trait `Disk` alone, and prove from its clauses what a crash at any moment leaves (`specs/Disk.antt`).
 #![tactic(auto)]
 
+mod allowance;
 mod disk;
 mod file;
 mod memory;
-mod plan;
 
 pub use disk::Disk;
 pub use file::FileDisk;

@@ -4,8 +4,8 @@ ghost use Rattle.log_disk.specs.Pending.{is_in, is_written, put, Step};
 ghost use Rattle.log_disk.specs.Pending.Step.{Wrote, CutTo, Synced};
 ghost use Rattle.log_disk.specs.Memory.{filled_at, left_of, IsContent, new_disk, content, disk_of, exceeds, is_listed, is_refused, failed, failed_if, counted, used, stepped, after_asking, after_write, after_cut, after_sync, FailsWhere, picked, filled};
 
+use crate::allowance::Allowance;
 use crate::disk::Disk;
-use crate::plan::Plan;
 use bus_types::{Failed, NoMemory};
 use std::alloc::Global;
 use std::marker::Model;
@@ -50,7 +50,7 @@ pub struct MemoryDisk {
     start: Vec<u8>,
     calls: Vec<Call>,
     texts: Vec<u8>,
-    plan: Plan,
+    allowance: Allowance,
 }
 
 impl Model for MemoryDisk {
@@ -64,16 +64,17 @@ impl Model for MemoryDisk {
     ghost view = { λ d. record {
       start = d.start.items;
       steps = steps_of d.calls.items d.texts.items;
-      room = d.plan.room;
-      calls = d.plan.calls;
-      fails = d.plan.fails.items;
-      next = d.plan.next;
-      faults = d.plan.faults;
+      room = d.allowance.room;
+      calls = d.allowance.calls;
+      fails = d.allowance.plan.fails.items;
+      next = d.allowance.plan.calls;
+      faults = d.allowance.plan.faults;
     } };
 
     ghost invariant = { λ d.
-        AreKept (after_all (steps_of d.calls.items d.texts.items) (lasting d.start.items)) d.calls.items d.texts.items d.bytes.items d.synced.items d.written.items
-        × AreRoomy d.plan.room d.plan.calls d.start d.calls d.texts d.bytes d.synced d.written };
+        AreKept (after_all (steps_of d.calls.items d.texts.items) (lasting d.start.items))
+        d.calls.items d.texts.items d.bytes.items d.synced.items d.written.items
+        × AreRoomy d.allowance.room d.allowance.calls d.start d.calls d.texts d.bytes d.synced d.written };
 }
 
 // Puts a text at a place, over what stands there and past the end. There is room for it.
@@ -144,7 +145,7 @@ impl MemoryDisk {
             start: with_room(alloc, size, bytes)?,
             calls: Vec::with_capacity(alloc, count)?,
             texts: Vec::with_capacity(alloc, size)?,
-            plan: Plan::new(alloc, room - bytes.len() as u64, calls, fails)?,
+            allowance: Allowance::new(alloc, room - bytes.len() as u64, calls, fails)?,
         })
     }
 
@@ -166,7 +167,7 @@ impl MemoryDisk {
         self.written.clear();
         self.calls.clear();
         self.texts.clear();
-        self.plan.restart();
+        self.allowance.restart();
     }
 
     /// The disk after a crash now. It holds one of the contents that a crash may leave, all of it lasting, and has what is
@@ -186,14 +187,14 @@ impl MemoryDisk {
         ensures value { result ≡ exceeds size self.now }
         ensures whole { IsContent (content self.now) }
     {
-        self.plan.exceeds(size)
+        self.allowance.exceeds(size)
     }
 
     // Whether the next call is to fail.
     fn is_listed(&self) -> bool
         ensures { result ≡ is_listed self.now }
     {
-        self.plan.is_listed()
+        self.allowance.is_listed()
     }
 
     // Fails a call.
@@ -201,7 +202,7 @@ impl MemoryDisk {
         ensures state { self.new ≡ failed self.old }
         ensures later { self.old.faults ≤ self.new.faults }
     {
-        self.plan.fail()
+        self.allowance.fail()
     }
 
     // Counts a call, for which there is room.
@@ -209,7 +210,7 @@ impl MemoryDisk {
         requires { exceeds 0 self.old ≡ false }
         ensures { self.new ≡ counted self.old }
     {
-        self.plan.count();
+        self.allowance.count();
     }
 
     // Fails a call that was counted, where it was listed.
@@ -251,8 +252,8 @@ impl MemoryDisk {
         push(&mut self.written, Range { place, size });
         push(&mut self.calls, Call::Write { place, size });
         append(&mut self.texts, bytes);
-        self.plan.room -= size;
-        self.plan.count();
+        self.allowance.room -= size;
+        self.allowance.count();
     }
 
     // Makes a cut, for which there is room.
@@ -263,7 +264,7 @@ impl MemoryDisk {
     {
         self.bytes.truncate(len);
         push(&mut self.calls, Call::Cut { size: len as u64 });
-        self.plan.count();
+        self.allowance.count();
     }
 
     // Makes a sync, for which there is room.
@@ -274,7 +275,7 @@ impl MemoryDisk {
         copy(&mut self.synced, &self.bytes);
         self.written.clear();
         push(&mut self.calls, Call::Sync);
-        self.plan.count();
+        self.allowance.count();
     }
 }
 

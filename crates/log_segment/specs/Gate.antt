@@ -40,5 +40,7 @@ pub record PutsBehind (place : ℕ) (text : List ℕ) (old new : DiskState) (res
   pub cause : HasCause old.faults new.faults result
   pub seen : BothTold NoShorter old.seen new.seen
   pub reach : OnOk result (IfSome new.seen (λ bytes. place + 1 + length text ≤ length bytes))
-  pub crash : (front body : List ℕ) → length front ≡ place → text ≡ body ++ 0 ∷ [] → RestsBehind front old → LeavesOnly old.clock new.clock (EndsEither front body)
-  pub done : OnOk result ((front body : List ℕ) → length front ≡ place → text ≡ body ++ 0 ∷ [] → RestsBehind front old → RestsBehind (front ++ 165 ∷ body) new)
+  pub crash : (front body : List ℕ) → length front ≡ place → text ≡ body ++ 0 ∷ [] → RestsBehind front old
+      → LeavesOnly old.clock new.clock (EndsEither front body)
+  pub done : OnOk result ((front body : List ℕ) → length front ≡ place → text ≡ body ++ 0 ∷ [] → RestsBehind front old
+      → RestsBehind (front ++ 165 ∷ body) new)

@@ -23,11 +23,13 @@ entry_after floor scn (e ∷ es) = if nat_lt scn e.scn then Some (floor, e) else
 
 -- the window whose record stands at a place before an end, where it follows an SCN
 abbrev pub FetchesAt : ℕ → ℕ → ℕ → List ℕ → Option Span → Type 0
-FetchesAt end place prev bytes found = (w : Span) (more : List ℕ) → Follows prev w → drop place bytes ≡ record_bytes w ++ more → place + span_size w + 4 ≤ end → found ≡ Some w
+FetchesAt end place prev bytes found = (w : Span) (more : List ℕ) → Follows prev w → drop place bytes ≡ record_bytes w ++ more
+    → place + span_size w + 4 ≤ end → found ≡ Some w
 
 -- the window of an entry, where its record stands at its place before an end, and follows an SCN
 abbrev pub Fetches : ℕ → Entry → ℕ → List ℕ → Option Span → Type 0
-Fetches end e prev bytes found = (w : Span) (more : List ℕ) → Follows prev w → e.scn ≡ w.scn → drop e.place bytes ≡ record_bytes w ++ more → e.place + span_size w + 4 ≤ end → found ≡ Some w
+Fetches end e prev bytes found = (w : Span) (more : List ℕ) → Follows prev w → e.scn ≡ w.scn
+    → drop e.place bytes ≡ record_bytes w ++ more → e.place + span_size w + 4 ≤ end → found ≡ Some w
 
 -- what is found behind an SCN is a window up to the newest one, and nothing where there is none
 pub record IsFoundIn (scn : ℕ) (n : Numbers) (found : Option Span) : Type 0 where

@@ -134,7 +134,8 @@ pub record Appends (w : Span) (old new : SegmentState) (result : Result Unit Log
   pub faults : fault_count old ≤ fault_count new
   pub failed : OnLogFailed result (Rose (fault_count old) (fault_count new))
   pub leaves : AppendLeaves w old new result
-  pub crash : (from : ℕ) (ws : List Span) → Stands from ws old → LeavesOnly old.disk.clock new.disk.clock (λ c. HoldsInUse from ws c ⊎ HoldsInUse from (ws ++ w ∷ []) c)
+  pub crash : (from : ℕ) (ws : List Span) → Stands from ws old
+      → LeavesOnly old.disk.clock new.disk.clock (λ c. HoldsInUse from ws c ⊎ HoldsInUse from (ws ++ w ∷ []) c)
   pub done : OnOk result ((from : ℕ) (ws : List Span) → Stands from ws old → Stands from (ws ++ w ∷ []) new)
 
 -- where a call answers `Full` or `NoMemory`

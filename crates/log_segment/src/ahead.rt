@@ -94,7 +94,8 @@ pub(crate) fn read_on<D: Disk>(
     ensures failed { OnReadFailed result (Rose (D.state disk.old).faults (D.state disk.new).faults) }
     ensures within { IfOk result (λ count. place + length ahead.new ≤ end) }
     ensures more { IfOk result (λ count. length ahead.new ≡ length ahead.old + count) }
-    ensures told { IfOk result (λ count. IfSome (D.state disk.old).seen (λ bytes. end ≤ length bytes → ReadsOn place end count bytes ahead.old ahead.new)) }
+    ensures told { IfOk result (λ count. IfSome (D.state disk.old).seen
+        (λ bytes. end ≤ length bytes → ReadsOn place end count bytes ahead.old ahead.new)) }
 {
     let next = place + ahead.bytes().len() as u64;
     let Ok(mut piece) = zeros(alloc, PIECE) else {

@@ -77,7 +77,8 @@ fn take_record(scan: &mut Scan, ahead: &mut Ahead, window: &Window) -> Result<bo
     requires room { scan.old.gate + length ahead.old < 2 ^ 64 }
     ensures failed { OnScanFailed result ⊥ }
     ensures scan { IfOk result (λ done. (end : ℕ) → IsScan end scan.old ahead.old → IsScan end scan.new ahead.new) }
-    ensures less { IfOk result (λ done. (end : ℕ) → IsScan end scan.old ahead.old → left end scan.new.gate ahead.new < left end scan.old.gate ahead.old) }
+    ensures less { IfOk result (λ done. (end : ℕ) → IsScan end scan.old ahead.old
+        → left end scan.new.gate ahead.new < left end scan.old.gate ahead.old) }
     ensures gate { IfOk result (λ done. (end : ℕ) → done ≡ true → scan.new.gate < end) }
     ensures told { (bytes : List ℕ) → Scans result bytes scan.old ahead.old scan.new ahead.new }
 {

@@ -27,7 +27,8 @@ fn place_of(rules: &[Rule], source: u16) -> usize
     requires { rises None (map (λ r. r.source) rules.now) ≡ true }
     ensures { (key : Key) (d : Rule) →
         list_any (λ r. r.source == source && accepts_key r.keys key) rules.now
-        ≡ (nat_lt result (length rules.now) && ((slice_index_or rules.now result d).source == source && accepts_key (slice_index_or rules.now result d).keys key)) }
+        ≡ (nat_lt result (length rules.now) && ((slice_index_or rules.now result d).source == source && accepts_key
+        (slice_index_or rules.now result d).keys key)) }
 {
     rules.partition_point(|rule| rule.source < source)
 }

@@ -57,7 +57,8 @@ impl Filter {
 
         // What is read is spelled so, and what is bad is spelled by no filter.
         ensures found { IfOk result (λ filter. IsFilter filter × (text.now ≡ filter_text filter)) }
-        ensures bad { (place : ℕ) → result ≡ Err (FilterFault.BadFilter place) → (filter : Selection) → IsFilter filter → text.now ≡ filter_text filter → ⊥ }
+        ensures bad { (place : ℕ) → result ≡ Err (FilterFault.BadFilter place) → (filter : Selection) → IsFilter filter
+            → text.now ≡ filter_text filter → ⊥ }
     {
         Filter::read_bytes(alloc, text.as_bytes())
     }
@@ -71,7 +72,8 @@ impl Filter {
 
         // What is read is spelled so, and what is bad is spelled by no filter.
         ensures found { IfOk result (λ filter. IsFilter filter × (text.now ≡ filter_text filter)) }
-        ensures bad { (place : ℕ) → result ≡ Err (FilterFault.BadFilter place) → (filter : Selection) → IsFilter filter → text.now ≡ filter_text filter → ⊥ }
+        ensures bad { (place : ℕ) → result ≡ Err (FilterFault.BadFilter place) → (filter : Selection) → IsFilter filter
+            → text.now ≡ filter_text filter → ⊥ }
     {
         selection(alloc, text)
     }

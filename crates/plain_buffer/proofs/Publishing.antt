@@ -17,7 +17,7 @@ total_more (v ∷ ws) w = omega (arith, total_more ws w)
 
 -- the bytes that a relay keeps are within its room
 pub bytes_within : (r : Relay) (size : ℕ) → IsBuffer r size → size ≤ 268435456
-bytes_within r size b = omega (arith, b.bytes, sym (total_is r.kept), (roomy_parts r.room (sizes r.kept) b.roomy).1, b.room.few_bytes)
+bytes_within r size b = omega (arith, b.bytes, sym (total_is r.kept), (roomy_parts r.room (sizes r.kept) b.roomy).1, b.room.bytes.1)
 
 -- a relay that evicted what it had to is the one that published the window
 pub published_is : (r : Relay) (w : Span) (all new : List Span) (floor size end tail : ℕ) → all ≡ r.kept ++ w ∷ [] → floor ≡ r.floor → tail ≡ w.scn → Evicts r.room floor all new size end

@@ -3,14 +3,7 @@ use Rattle.std.specs.Prelude.{◌≡◌, ℕ, ◌≤◌, true, List, take, drop}
 use Rattle.bus_types.specs.declared.limits.TheConstants.{MAX_SCN}
 use Rattle.bus_types.specs.Window.{Span}
 use Rattle.bus_types.specs.Timeline.{IsTimelineFrom, end_from, total_size}
-use Rattle.bus_types.specs.Relay.{Room, sizes, has_room, surplus, Relay}
-
--- a room that a relay may have: for any window alone, and within what it is given
-pub record IsRoom (room : Room) : Type 0 where
-  pub some_bytes : 1048576 ≤ room.bytes
-  pub few_bytes : room.bytes ≤ 268435456
-  pub some_windows : 1 ≤ room.windows
-  pub few_windows : room.windows ≤ 65536
+use Rattle.bus_types.specs.Relay.{Room, IsRoom, sizes, has_room, surplus, Relay}
 
 -- a relay keeps windows that follow its floor and each other up to its tail, has room for them, and knows their bytes
 pub record IsBuffer (r : Relay) (size : ℕ) : Type 0 where

@@ -16,4 +16,5 @@ told written room = record { written = written; room = room }
 -- which doesn't come where there is room for the text
 abbrev pub Sends : Told → Told → ℕ → Result ℕ WriteFault → List ℕ → Type 0
 Sends old new done (Ok now) text = (now ≡ done + length text) × Appends old.written new.written text × RoomLeft old.room new.room (length text)
-Sends old new done (Err fault) text = (n : ℕ) × (fault.written ≡ done + n) × (n < length text) × Appends old.written new.written (take n text) × IfSome old.room (λ room. room < length text)
+Sends old new done (Err fault) text = (n : ℕ) × (fault.written ≡ done + n) × (n < length text)
+    × Appends old.written new.written (take n text) × IfSome old.room (λ room. room < length text)

@@ -73,7 +73,8 @@ impl PlainBuffer {
         ensures err { OnErr result (self.new ≡ self.old) }
 
         // One that stands for a timeline still does, where the window is the next of it.
-        ensures stands { OnOk result ((ws : List Span) → StandsFor ws self.old → windows_between self.old.tail window.now.scn ws ≡ window.now ∷ [] → StandsFor ws self.new) }
+        ensures stands { OnOk result ((ws : List Span) → StandsFor ws self.old
+            → windows_between self.old.tail window.now.scn ws ≡ window.now ∷ [] → StandsFor ws self.new) }
     {
         self.kept.push(alloc, window)?;
         self.kept.evict(self.bytes, self.windows);
@@ -112,12 +113,17 @@ impl PlainBuffer {
         ensures range { IfOk result IsInRange }
 
         // Over each timeline that it stands for, the answer is the one by the rule of a relay.
-        ensures rule { IfOk result (λ s. (ws : List Span) → StandsFor ws self.now → IsServed s (stream ws self.now.floor self.now.tail scn (F.test filter.now) max)) }
-        ensures written { OnOk result (Appends (W.written out.old) (W.written out.new) (windows_sent (answer_of self.now scn (F.test filter.now) max))) }
-        ensures part { IfErr result (λ fault. Appends (W.written out.old) (W.written out.new) (take fault.written (windows_sent (answer_of self.now scn (F.test filter.now) max)))) }
+        ensures rule { IfOk result (λ s. (ws : List Span) → StandsFor ws self.now
+            → IsServed s (stream ws self.now.floor self.now.tail scn (F.test filter.now) max)) }
+        ensures written { OnOk result (Appends (W.written out.old) (W.written out.new)
+            (windows_sent (answer_of self.now scn (F.test filter.now) max))) }
+        ensures part { IfErr result (λ fault. Appends (W.written out.old) (W.written out.new)
+            (take fault.written (windows_sent (answer_of self.now scn (F.test filter.now) max)))) }
         ensures short { IfErr result (λ fault. fault.written < length (windows_sent (answer_of self.now scn (F.test filter.now) max))) }
-        ensures full { OnErr result (IfSome (W.room out.old) (λ room. room < length (windows_sent (answer_of self.now scn (F.test filter.now) max)))) }
-        ensures room { OnOk result (RoomLeft (W.room out.old) (W.room out.new) (length (windows_sent (answer_of self.now scn (F.test filter.now) max)))) }
+        ensures full { OnErr result (IfSome (W.room out.old)
+            (λ room. room < length (windows_sent (answer_of self.now scn (F.test filter.now) max)))) }
+        ensures room { OnOk result (RoomLeft (W.room out.old) (W.room out.new)
+            (length (windows_sent (answer_of self.now scn (F.test filter.now) max)))) }
         ensures risen { OnErr result (W.faults out.old < W.faults out.new) }
         ensures beside { W.beside out.new ≡ W.beside out.old }
         ensures cause { HasCause (W.faults out.old) (W.faults out.new) result }
@@ -144,11 +150,16 @@ fn serve_from<F: Accepts, W: Sink>(
     requires { from < length windows.now.items }
     ensures range { IfOk result IsInRange }
     ensures answer { IfOk result (λ s. IsServed s (fitting max (cuts (F.test filter.now) (drop from windows.now.items)))) }
-    ensures written { OnOk result (Appends (W.written out.old) (W.written out.new) (windows_sent (fitting max (cuts (F.test filter.now) (drop from windows.now.items))))) }
-    ensures part { IfErr result (λ fault. Appends (W.written out.old) (W.written out.new) (take fault.written (windows_sent (fitting max (cuts (F.test filter.now) (drop from windows.now.items)))))) }
-    ensures short { IfErr result (λ fault. fault.written < length (windows_sent (fitting max (cuts (F.test filter.now) (drop from windows.now.items))))) }
-    ensures full { OnErr result (IfSome (W.room out.old) (λ room. room < length (windows_sent (fitting max (cuts (F.test filter.now) (drop from windows.now.items)))))) }
-    ensures room { OnOk result (RoomLeft (W.room out.old) (W.room out.new) (length (windows_sent (fitting max (cuts (F.test filter.now) (drop from windows.now.items)))))) }
+    ensures written { OnOk result (Appends (W.written out.old) (W.written out.new)
+        (windows_sent (fitting max (cuts (F.test filter.now) (drop from windows.now.items))))) }
+    ensures part { IfErr result (λ fault. Appends (W.written out.old) (W.written out.new)
+        (take fault.written (windows_sent (fitting max (cuts (F.test filter.now) (drop from windows.now.items)))))) }
+    ensures short { IfErr result (λ fault. fault.written < length
+        (windows_sent (fitting max (cuts (F.test filter.now) (drop from windows.now.items))))) }
+    ensures full { OnErr result (IfSome (W.room out.old) (λ room. room < length
+        (windows_sent (fitting max (cuts (F.test filter.now) (drop from windows.now.items)))))) }
+    ensures room { OnOk result (RoomLeft (W.room out.old) (W.room out.new)
+        (length (windows_sent (fitting max (cuts (F.test filter.now) (drop from windows.now.items)))))) }
     ensures risen { OnErr result (W.faults out.old < W.faults out.new) }
     ensures beside { W.beside out.new ≡ W.beside out.old }
     ensures cause { HasCause (W.faults out.old) (W.faults out.new) result }

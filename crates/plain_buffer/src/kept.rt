@@ -81,7 +81,8 @@ impl Kept {
     /// Where the windows after an SCN begin.
     pub fn place_after(&self, scn: u64) -> usize
         requires { IsTimelineFrom self.now.floor self.now.windows.items }
-        ensures after { drop result self.now.windows.items ≡ windows_between scn (end_from self.now.floor self.now.windows.items) self.now.windows.items }
+        ensures after { drop result self.now.windows.items
+            ≡ windows_between scn (end_from self.now.floor self.now.windows.items) self.now.windows.items }
         ensures within { self.now.floor ≤ scn → scn < end_from self.now.floor self.now.windows.items → result < length self.now.windows.items }
     {
         self.windows.partition_point(|window| window.scn() <= scn)

@@ -62,7 +62,8 @@ pub(crate) fn longest_run<F: Accepts>(
     max: u64,
 ) -> Run
     requires { from ≤ length windows.now.items }
-    ensures tells { Tells result.count result.last result.bytes [] (longest_run most_windows max (cuts (F.test filter.now) (drop from windows.now.items))) }
+    ensures tells { Tells result.count result.last result.bytes []
+        (longest_run most_windows max (cuts (F.test filter.now) (drop from windows.now.items))) }
     ensures range { result.last ≤ MAX_SCN }
 {
     let mut last = 0;

@@ -33,7 +33,8 @@ fn send_bytes<W: Sink>(bytes: &[u8], done: u64, out: &mut W) -> Result<u64, Writ
 // The event of a change.
 fn send_event<W: Sink>(scn: u64, change: &Change, done: u64, out: &mut W) -> Result<u64, WriteFault>
     requires { done + change_size change.now < 2 ^ 64 }
-    ensures sends { Sends (told (W.written out.old) (W.room out.old)) (told (W.written out.new) (W.room out.new)) done result (event_bytes (record { scn = scn; change = change.now })) }
+    ensures sends { Sends (told (W.written out.old) (W.room out.old)) (told (W.written out.new) (W.room out.new)) done result
+        (event_bytes (record { scn = scn; change = change.now })) }
     ensures risen { OnErr result (W.faults out.old < W.faults out.new) }
     ensures beside { W.beside out.new ≡ W.beside out.old }
     ensures cause { HasCause (W.faults out.old) (W.faults out.new) result }
@@ -54,7 +55,8 @@ fn send_accepted<F: Accepts, W: Sink>(
     out: &mut W,
 ) -> Result<u64, WriteFault>
     requires { done + change_size change.now < 2 ^ 64 }
-    ensures sends { Sends (told (W.written out.old) (W.room out.old)) (told (W.written out.new) (W.room out.new)) done result (accepted_bytes (F.test filter.now) scn change.now) }
+    ensures sends { Sends (told (W.written out.old) (W.room out.old)) (told (W.written out.new) (W.room out.new)) done result
+        (accepted_bytes (F.test filter.now) scn change.now) }
     ensures risen { OnErr result (W.faults out.old < W.faults out.new) }
     ensures beside { W.beside out.new ≡ W.beside out.old }
     ensures cause { HasCause (W.faults out.old) (W.faults out.new) result }
@@ -75,7 +77,8 @@ fn send_changes<F: Accepts, W: Sink>(
     out: &mut W,
 ) -> Result<u64, WriteFault>
     requires { done + changes_size changes.now < 2 ^ 64 }
-    ensures sends { Sends (told (W.written out.old) (W.room out.old)) (told (W.written out.new) (W.room out.new)) done result (changes_bytes scn (accepted (F.test filter.now) changes.now)) }
+    ensures sends { Sends (told (W.written out.old) (W.room out.old)) (told (W.written out.new) (W.room out.new)) done result
+        (changes_bytes scn (accepted (F.test filter.now) changes.now)) }
     ensures risen { OnErr result (W.faults out.old < W.faults out.new) }
     ensures beside { W.beside out.new ≡ W.beside out.old }
     ensures cause { HasCause (W.faults out.old) (W.faults out.new) result }
@@ -95,7 +98,8 @@ fn send_window<F: Accepts, W: Sink>(
     out: &mut W,
 ) -> Result<u64, WriteFault>
     requires { done + MAX_WINDOW < 2 ^ 64 }
-    ensures sends { Sends (told (W.written out.old) (W.room out.old)) (told (W.written out.new) (W.room out.new)) done result (window_bytes (cut (F.test filter.now) window.now)) }
+    ensures sends { Sends (told (W.written out.old) (W.room out.old)) (told (W.written out.new) (W.room out.new)) done result
+        (window_bytes (cut (F.test filter.now) window.now)) }
     ensures small { length (window_bytes (cut (F.test filter.now) window.now)) ≤ MAX_WINDOW }
     ensures risen { OnErr result (W.faults out.old < W.faults out.new) }
     ensures beside { W.beside out.new ≡ W.beside out.old }
@@ -115,7 +119,8 @@ pub(crate) fn send_windows<F: Accepts, W: Sink>(
     out: &mut W,
 ) -> Result<u64, WriteFault>
     requires { from + count ≤ length windows.now.items }
-    ensures sends { Sends (told (W.written out.old) (W.room out.old)) (told (W.written out.new) (W.room out.new)) 0 result (windows_bytes (cuts (F.test filter.now) (take count (drop from windows.now.items)))) }
+    ensures sends { Sends (told (W.written out.old) (W.room out.old)) (told (W.written out.new) (W.room out.new)) 0 result
+        (windows_bytes (cuts (F.test filter.now) (take count (drop from windows.now.items)))) }
     ensures risen { OnErr result (W.faults out.old < W.faults out.new) }
     ensures beside { W.beside out.new ≡ W.beside out.old }
     ensures cause { HasCause (W.faults out.old) (W.faults out.new) result }

@@ -27,11 +27,15 @@ pub fn relay_answer<B: Buffer>(
     ensures served { IfOk result (λ served. IsServed served (answer_of (B.relay buffer.now) scn (test_of filter.now) max)) }
     ensures bytes { OnOk result (reply.new.items ≡ reply.old.items ++ reply_bytes (answer_of (B.relay buffer.now) scn (test_of filter.now) max)) }
     ensures err { OnErr result (reply.new.items ≡ reply.old.items) }
-    ensures full { OnErr result (vec_capacity reply.old < vec_len reply.old + length (reply_bytes (answer_of (B.relay buffer.now) scn (test_of filter.now) max))) }
+    ensures full { OnErr result (vec_capacity reply.old < vec_len reply.old + length
+        (reply_bytes (answer_of (B.relay buffer.now) scn (test_of filter.now) max))) }
 
     // Over each timeline that the buffer stands for, the answer and its bytes are those by the rule of a relay.
-    ensures rule { IfOk result (λ served. (ws : List Span) → StandsFor ws (B.relay buffer.now) → IsServed served (stream ws (B.relay buffer.now).floor (B.relay buffer.now).tail scn (test_of filter.now) max)) }
-    ensures rule_bytes { OnOk result ((ws : List Span) → StandsFor ws (B.relay buffer.now) → reply.new.items ≡ reply.old.items ++ reply_bytes (stream ws (B.relay buffer.now).floor (B.relay buffer.now).tail scn (test_of filter.now) max)) }
+    ensures rule { IfOk result (λ served. (ws : List Span) → StandsFor ws (B.relay buffer.now)
+        → IsServed served (stream ws (B.relay buffer.now).floor (B.relay buffer.now).tail scn (test_of filter.now) max)) }
+    ensures rule_bytes { OnOk result ((ws : List Span) → StandsFor ws (B.relay buffer.now)
+        → reply.new.items ≡ reply.old.items ++ reply_bytes (stream ws (B.relay buffer.now).floor (B.relay buffer.now).tail scn
+        (test_of filter.now) max)) }
 {
     let before = reply.len();
     let mut sink = GrowingSink::new(mem::replace(reply, Vec::new(alloc)));

@@ -59,12 +59,17 @@ pub trait Buffer: Sized {
         ensures small { IfOk result IsInRange }
 
         // Over each timeline that it stands for, the answer is the one by the rule of a relay.
-        ensures rule { IfOk result (λ served. (ws : List Span) → StandsFor ws (relay self.now) → IsServed served (stream ws (relay self.now).floor (relay self.now).tail scn (test_of filter.now) max)) }
-        ensures written { OnOk result (Appends (W.written out.old) (W.written out.new) (windows_sent (answer_of (relay self.now) scn (test_of filter.now) max))) }
-        ensures part { IfErr result (λ fault. Appends (W.written out.old) (W.written out.new) (take fault.written (windows_sent (answer_of (relay self.now) scn (test_of filter.now) max)))) }
+        ensures rule { IfOk result (λ served. (ws : List Span) → StandsFor ws (relay self.now)
+            → IsServed served (stream ws (relay self.now).floor (relay self.now).tail scn (test_of filter.now) max)) }
+        ensures written { OnOk result (Appends (W.written out.old) (W.written out.new)
+            (windows_sent (answer_of (relay self.now) scn (test_of filter.now) max))) }
+        ensures part { IfErr result (λ fault. Appends (W.written out.old) (W.written out.new)
+            (take fault.written (windows_sent (answer_of (relay self.now) scn (test_of filter.now) max)))) }
         ensures short { IfErr result (λ fault. fault.written < length (windows_sent (answer_of (relay self.now) scn (test_of filter.now) max))) }
-        ensures full { OnErr result (IfSome (W.room out.old) (λ room. room < length (windows_sent (answer_of (relay self.now) scn (test_of filter.now) max)))) }
-        ensures room { OnOk result (RoomLeft (W.room out.old) (W.room out.new) (length (windows_sent (answer_of (relay self.now) scn (test_of filter.now) max)))) }
+        ensures full { OnErr result (IfSome (W.room out.old)
+            (λ room. room < length (windows_sent (answer_of (relay self.now) scn (test_of filter.now) max)))) }
+        ensures room { OnOk result (RoomLeft (W.room out.old) (W.room out.new)
+            (length (windows_sent (answer_of (relay self.now) scn (test_of filter.now) max)))) }
         ensures risen { OnErr result (W.faults out.old < W.faults out.new) }
         ensures beside { W.beside out.new ≡ W.beside out.old }
         ensures cause { HasCause (W.faults out.old) (W.faults out.new) result };

@@ -69,7 +69,8 @@ fn apply_windows<K: Keeper>(
     requires rising { (high : ℕ) × RiseBetween mark.now.applied high windows.now }
     ensures takes { Takes (commit_of mark.now windows.now) (K.state keeper.old) (K.state keeper.new) result }
     ensures next { IfOk result (λ next. next ≡ applied_after mark.now windows.now) }
-    ensures advances { IfOk result (λ next. (high : ℕ) → mark.now.applied ≤ high → RiseBetween mark.now.applied high windows.now → Advances mark.now next high) }
+    ensures advances { IfOk result (λ next. (high : ℕ) → mark.now.applied ≤ high → RiseBetween mark.now.applied high windows.now
+        → Advances mark.now next high) }
 {
     let next = mark_after(mark, windows);
     if !windows.is_empty() {
@@ -103,7 +104,8 @@ fn commit<K: Keeper>(
     mark: &BootMark,
 ) -> Result<(), StoreFault>
     requires { IsBootMark mark.now }
-    ensures { Takes (Some (move_of false (flat_map (λ w. w.changes) windows.now) (boot_mark_text mark.now))) (K.state keeper.old) (K.state keeper.new) result }
+    ensures { Takes (Some (move_of false (flat_map (λ w. w.changes) windows.now) (boot_mark_text mark.now))) (K.state keeper.old)
+        (K.state keeper.new) result }
 {
     let text = boot_text(alloc, mark)?;
     let batch = changes_of(alloc, windows)?;

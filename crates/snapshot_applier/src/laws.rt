@@ -9,7 +9,8 @@ ghost use Rattle.snapshot_applier.specs.BootMark.{IsBootMark, boot_mark_text};
 /// its table at the last of them.
 pub fn applied_rows_are_the_table()
     ensures { (ws : List Span) (scn high most : ℕ) → IsTimeline ws → scn ≤ high → high ≤ end_of ws
-        → (let next = take most (windows_between scn high ws) in rows_after (table ws scn) (flat_map (λ w. w.changes) next) ≡ table ws (end_from scn next)) }
+        → (let next = take most (windows_between scn high ws) in rows_after (table ws scn) (flat_map (λ w. w.changes) next)
+        ≡ table ws (end_from scn next)) }
 {}
 
 /// A law of boot marks: no text is the text of two, and the text of one, by computation from the definition alone.

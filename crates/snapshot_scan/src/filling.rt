@@ -83,7 +83,8 @@ fn put_row(
     reply: &mut Vec<u8>,
 ) -> Result<(), NoMemory>
     requires { filling.old.count + filling.old.room < 2 ^ 32 }
-    ensures ok { OnOk result (filled reply.new.items filling.new ≡ with_row (test_of filter.now) scn (filled reply.old.items filling.old) (pair_of row)) }
+    ensures ok { OnOk result (filled reply.new.items filling.new
+        ≡ with_row (test_of filter.now) scn (filled reply.old.items filling.old) (pair_of row)) }
     ensures small { filling.new.count + filling.new.room ≤ filling.old.count + filling.old.room }
     ensures front { Extends reply.old.items reply.new.items }
 {
@@ -110,7 +111,8 @@ pub(crate) fn put_rows(
     reply: &mut Vec<u8>,
 ) -> Result<(), NoMemory>
     requires { filling.old.count + filling.old.room < 2 ^ 32 }
-    ensures ok { OnOk result (filled reply.new.items filling.new ≡ with_rows (test_of filter.now) scn (filled reply.old.items filling.old) (map pair_of rows.items)) }
+    ensures ok { OnOk result (filled reply.new.items filling.new
+        ≡ with_rows (test_of filter.now) scn (filled reply.old.items filling.old) (map pair_of rows.items)) }
     ensures small { filling.new.count + filling.new.room ≤ filling.old.count + filling.old.room }
     ensures front { Extends reply.old.items reply.new.items }
 {

@@ -18,7 +18,8 @@ ghost use Rattle.snapshot_scan.specs.Worked.{put, moving, only_two};
 /// and at 0 that is no row.
 pub fn a_scan_gives_the_view()
     ensures { (ws : List Span) (test : Test) (applied most : ℕ) (cursor : Cursor)
-        → scan_chunk test applied cursor most (table ws applied) ≡ chunk_of (λ cs more. Rows cs applied more) most (puts_of (rest_of cursor (view test ws applied))) }
+        → scan_chunk test applied cursor most (table ws applied)
+        ≡ chunk_of (λ cs more. Rows cs applied more) most (puts_of (rest_of cursor (view test ws applied))) }
 {}
 
 /// Worked chunks of a table that moves on while it is scanned, by computation from the definitions alone.

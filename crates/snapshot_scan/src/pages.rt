@@ -28,7 +28,8 @@ pub(crate) fn fill<K: Keeper>(
     max: u32,
     reply: &mut Vec<u8>,
 ) -> Result<Filling, StoreFault>
-    ensures filled { IfOk result (λ filling. FilledFrom (test_of filter.now) scn cursor.now (K.state keeper.new) (empty_in max reply.old.items) (filled reply.new.items filling)) }
+    ensures filled { IfOk result (λ filling. FilledFrom (test_of filter.now) scn cursor.now (K.state keeper.new)
+        (empty_in max reply.old.items) (filled reply.new.items filling)) }
     ensures reads { OnlyReads (K.state keeper.old) (K.state keeper.new) result }
     ensures front { Extends reply.old.items reply.new.items }
 {

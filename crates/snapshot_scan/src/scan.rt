@@ -34,7 +34,8 @@ pub fn chunk<K: Keeper>(
     reply: &mut Vec<u8>,
 ) -> Result<Shape, BootFault>
     requires { applied ≤ MAX_SCN }
-    ensures chunk { IfOk result (λ shape. IfSome (K.state keeper.new).content (λ c. Appends (scan_chunk (test_of filter.now) applied cursor.now max c.rows) shape reply.old.items reply.new.items)) }
+    ensures chunk { IfOk result (λ shape. IfSome (K.state keeper.new).content
+        (λ c. Appends (scan_chunk (test_of filter.now) applied cursor.now max c.rows) shape reply.old.items reply.new.items)) }
 
     // Whatever the keeper tells, it is the chunk of some rows after the cursor.
     ensures some { IfOk result (λ shape. AppendsSome (test_of filter.now) applied cursor.now max shape reply.old.items reply.new.items) }
@@ -73,7 +74,8 @@ fn append_chunk<K: Keeper>(
     reply: &mut Vec<u8>,
 ) -> Result<Shape, StoreFault>
     requires { applied ≤ MAX_SCN }
-    ensures chunk { IfOk result (λ shape. IfSome (K.state keeper.new).content (λ c. Appends (scan_chunk (test_of filter.now) applied cursor.now max c.rows) shape reply.old.items reply.new.items)) }
+    ensures chunk { IfOk result (λ shape. IfSome (K.state keeper.new).content
+        (λ c. Appends (scan_chunk (test_of filter.now) applied cursor.now max c.rows) shape reply.old.items reply.new.items)) }
     ensures some { IfOk result (λ shape. AppendsSome (test_of filter.now) applied cursor.now max shape reply.old.items reply.new.items) }
     ensures reads { OnlyReads (K.state keeper.old) (K.state keeper.new) result }
     ensures front { Extends reply.old.items reply.new.items }
@@ -94,7 +96,8 @@ fn fill_at<K: Keeper>(
     max: u32,
     reply: &mut Vec<u8>,
 ) -> Result<Filling, StoreFault>
-    ensures filled { IfOk result (λ filling. ScannedFrom (test_of filter.now) applied cursor.now (K.state keeper.new) (empty_in max reply.old.items) (filled reply.new.items filling)) }
+    ensures filled { IfOk result (λ filling. ScannedFrom (test_of filter.now) applied cursor.now (K.state keeper.new)
+        (empty_in max reply.old.items) (filled reply.new.items filling)) }
     ensures reads { OnlyReads (K.state keeper.old) (K.state keeper.new) result }
     ensures front { Extends reply.old.items reply.new.items }
     ensures unread { applied ≡ 0 → keeper.new ≡ keeper.old }

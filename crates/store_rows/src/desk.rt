@@ -20,6 +20,7 @@ pub struct Desk {
 }
 
 impl Desk {
+    /// A desk with nothing on it.
     pub fn new(alloc: Global) -> Desk {
         Desk {
             keeper: None,

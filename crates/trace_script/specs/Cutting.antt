@@ -51,7 +51,8 @@ pub record Holds (old : Cut) (piece : List ℕ) (new : Cut) : Type 0 where
 -- however the input goes on, its next line, which has this number, is too long
 pub record IsLong (old : Cut) (piece : List ℕ) (line : ℕ) : Type 0 where
   pub number : line ≡ old.count + 1
-  pub next : (more : List ℕ) → (first : RawLine) × (others : List RawLine) × (lines_of (old.come ++ (piece ++ more)) ≡ first ∷ others) × (is_too_long old.count old.used first ≡ true)
+  pub next : (more : List ℕ) → (first : RawLine) × (others : List RawLine) × (lines_of (old.come ++ (piece ++ more)) ≡ first ∷ others)
+      × (is_too_long old.count old.used first ≡ true)
 
 -- ---- by sizes
 

@@ -51,7 +51,8 @@ abbrev pub left_line : ℕ → ℕ → ℕ → List ℕ
 left_line count bytes scn = codes "rows " ++ decimal count ++ codes " " ++ decimal bytes ++ codes " at " ++ decimal scn ++ codes " more\n"
 
 abbrev pub scanned_line : ℕ → ℕ → ℕ → List ℕ
-scanned_line count bytes scn = codes "rows " ++ (decimal count ++ (codes " " ++ (decimal bytes ++ (codes " at " ++ (decimal scn ++ codes " scanned\n")))))
+scanned_line count bytes scn =
+    codes "rows " ++ (decimal count ++ (codes " " ++ (decimal bytes ++ (codes " at " ++ (decimal scn ++ codes " scanned\n")))))
 
 abbrev pub rows_line : ℕ → ℕ → ℕ → Bool → List ℕ
 rows_line count bytes scn more = if more then left_line count bytes scn else scanned_line count bytes scn
@@ -86,7 +87,8 @@ abbrev pub target_line : Stage → ℕ → List ℕ
 target_line (stages.Online scn) target = []
 target_line (stages.Delta old) target = []
 target_line stages.Snapshot target = []
-target_line (stages.Scanned start) target = if target == start then codes "target " ++ decimal target ++ codes " online\n" else codes "target " ++ decimal target ++ codes " catchup\n"
+target_line (stages.Scanned start) target = if target == start then codes "target " ++ decimal target ++ codes " online\n"
+    else codes "target " ++ decimal target ++ codes " catchup\n"
 target_line (stages.Catchup old) target = []
 
 abbrev pub answer_line : Stage → Answer → List ℕ

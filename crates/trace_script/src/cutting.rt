@@ -140,10 +140,12 @@ fn hold(count: u64, used: u64, come: &mut Vec<u8>, part: &[u8]) -> Result<(), Cu
     requires count { count ≤ most_lines }
     requires used { used ≤ longest_input }
     ensures ok { OnOk result (come.new.items ≡ come.old.items ++ part.now) }
-    ensures within { OnOk result (0 < length (come.old.items ++ part.now) → is_long count used (length (come.old.items ++ part.now)) (length (come.old.items ++ part.now)) ≡ false) }
+    ensures within { OnOk result (0 < length (come.old.items ++ part.now)
+        → is_long count used (length (come.old.items ++ part.now)) (length (come.old.items ++ part.now)) ≡ false) }
     ensures number { (line : ℕ) → IsErrOf result (CutFault.TooLong line) → line ≡ count + 1 }
     ensures some { (line : ℕ) → IsErrOf result (CutFault.TooLong line) → 0 < length (come.old.items ++ part.now) }
-    ensures too_long { (line : ℕ) → IsErrOf result (CutFault.TooLong line) → is_long count used (length (come.old.items ++ part.now)) (length (come.old.items ++ part.now)) ≡ true }
+    ensures too_long { (line : ℕ) → IsErrOf result (CutFault.TooLong line)
+        → is_long count used (length (come.old.items ++ part.now)) (length (come.old.items ++ part.now)) ≡ true }
     ensures back { OnErr result (come.new.items ≡ come.old.items) }
 {
     let size = come.len() as u64 + part.len() as u64;
@@ -160,7 +162,8 @@ fn join(count: u64, used: u64, come: &mut Vec<u8>, end: &[u8]) -> Result<(), Cut
     ensures ok { OnOk result (come.new.items ≡ (if length come.old.items == 0 then [] else come.old.items ++ end.now)) }
     ensures within { OnOk result (is_long count used (length (come.old.items ++ end.now)) (length (come.old.items ++ end.now) + 1) ≡ false) }
     ensures number { (line : ℕ) → IsErrOf result (CutFault.TooLong line) → line ≡ count + 1 }
-    ensures too_long { (line : ℕ) → IsErrOf result (CutFault.TooLong line) → is_long count used (length (come.old.items ++ end.now)) (length (come.old.items ++ end.now) + 1) ≡ true }
+    ensures too_long { (line : ℕ) → IsErrOf result (CutFault.TooLong line)
+        → is_long count used (length (come.old.items ++ end.now)) (length (come.old.items ++ end.now) + 1) ≡ true }
     ensures back { OnErr result (come.new.items ≡ come.old.items) }
 {
     let size = come.len() as u64 + end.len() as u64;

@@ -48,7 +48,8 @@ pub fn the_limits_of_lines()
 /// The limits of an input: a line is within them exactly where fewer than 1,000,000 lines came before it, its text has at most
 /// 4,194,304 bytes, and the input up to its end at most 16,777,216.
 pub fn the_limits_of_inputs()
-    ensures { (count used : ℕ) (line : RawLine) → (is_too_long count used line ≡ false) ↔ ((count < 1000000) × (length line.text ≤ 4194304) × (used + line.size ≤ 16777216)) }
+    ensures { (count used : ℕ) (line : RawLine) → (is_too_long count used line ≡ false)
+        ↔ ((count < 1000000) × (length line.text ≤ 4194304) × (used + line.size ≤ 16777216)) }
 {}
 
 /// What some texts are read as, by computation from the grammar alone.

@@ -94,5 +94,6 @@ pub record GoesOn (floor : ℕ) (stream : List ℕ) (windows before after : List
 -- are bad at a place exactly where that is answered. After want of memory the stream is as before
 abbrev pub Carries : Result Unit SplitFault → ℕ → List ℕ → List ℕ → List Span → List Span → List Span → Split → Type 0
 Carries (Ok u) floor stream piece windows before after split = GoesOn floor (stream ++ piece) windows before after split × (split.bad ≡ None)
-Carries (Err (Bad place)) floor stream piece windows before after split = GoesOn floor (stream ++ piece) windows before after split × (split.bad ≡ Some place)
+Carries (Err (Bad place)) floor stream piece windows before after split = GoesOn floor (stream ++ piece) windows before after split
+    × (split.bad ≡ Some place)
 Carries (Err NoMemory) floor stream piece windows before after split = ReadsAs floor stream windows split × (after ≡ before)

@@ -10,7 +10,8 @@ use std::test::Fail;
 
 // Writes back what one read gives, at most four bytes: a connection has then given and taken the same.
 fn echo<C: Conn>(conn: &mut C) -> Result<(), Failed>
-    ensures { OnOk result ((bytes : List ℕ) × Appends (C.given conn.old) (C.given conn.new) bytes × Appends (C.written conn.old) (C.written conn.new) bytes) }
+    ensures { OnOk result ((bytes : List ℕ) × Appends (C.given conn.old) (C.given conn.new) bytes
+        × Appends (C.written conn.old) (C.written conn.new) bytes) }
 {
     let mut piece = [0; 4];
     let Ok(count) = conn.read(&mut piece) else {

@@ -18,5 +18,5 @@ returns-clause-given c =
 pub returns-clause-counted : goal.returns-clause-counted
 returns-clause-counted c =
     let planned = c.if-next_fails.ensures in
-    subst (λ s. the_view (record c.self.inside { given = c.self.inside.given + c.copy_front-count.result; plan = c.next_fails.new.self }) ≡ after_read s (length c.args.buf.now)) c.self.view_is
+    subst (λ s. the_view (record c.self.inside { given = c.self.inside.given + c.copy_front-count.result; plan = c.next_fails.new.plan }) ≡ after_read s (length c.args.buf.now)) c.self.view_is
     (read_leaves (the_view c.self.inside) c.self.inside.bytes.items _ _ c.self.inside.given _ c.copy_front-count.result _ _ refl refl c.left.ensures (sym planned.listed) c.copy_front-count.ensures.count planned.fails planned.calls planned.faults)

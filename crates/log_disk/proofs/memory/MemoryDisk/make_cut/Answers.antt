@@ -1,5 +1,5 @@
 use Rattle.std.proofs.Common.{◌≡◌, ◌<◌, ◌≤◌, ◌+◌, ℕ, List, length, take, sym, ◌∙◌, ap, subst, arith, length-append, length-take}
-use Rattle.log_disk.specs.declared.plan.Plan.{Plan}
+use Rattle.log_disk.specs.declared.allowance.Allowance.{Allowance}
 use Rattle.log_disk.specs.Pending.{lasting, after, after_all}
 use Rattle.log_disk.specs.Pending.Step.{CutTo}
 use Rattle.log_disk.specs.Memory.{MemoryState, content, steps_of}
@@ -15,9 +15,9 @@ invariant_of-self c =
     let r = c.self.invariant.1 in
     let past = after_all (steps_of c.self.inside.calls.items c.self.inside.texts.items) (lasting c.self.inside.start.items) in
     let fits = has_room 0 c.args.self.now c.requires.room in
-    let some : 0 < c.self.inside.plan.calls = omega (arith, fits.1, ap (λ (s : MemoryState). s.calls) c.self.view_is) in
-    let calls : c.count.new.self.calls + 1 ≡ c.self.inside.plan.calls = omega (arith, some, ap (λ (p : Plan). p.calls) c.count.ensures) in
-    let room : c.count.new.self.room ≡ c.self.inside.plan.room = ap (λ (p : Plan). p.room) c.count.ensures in
+    let some : 0 < c.self.inside.allowance.calls = omega (arith, fits.1, ap (λ (s : MemoryState). s.calls) c.self.view_is) in
+    let calls : c.count.new.self.calls + 1 ≡ c.self.inside.allowance.calls = omega (arith, some, ap (λ (p : Allowance). p.calls) c.count.ensures) in
+    let room : c.count.new.self.room ≡ c.self.inside.allowance.room = ap (λ (p : Allowance). p.room) c.count.ensures in
     let t = c.truncate.ensures in
     let shorter = ap length t.items in
     let more = ap length c.push.ensures.items in
@@ -45,7 +45,7 @@ returns c =
       steps = more i;
       room = (plan i).room;
       calls = (plan i).calls;
-      fails = (plan i).fails.items;
-      next = (plan i).next;
-      faults = (plan i).faults;
+      fails = (plan i).plan.fails.items;
+      next = (plan i).plan.calls;
+      faults = (plan i).plan.faults;
     })

@@ -1,5 +1,5 @@
 use Rattle.std.proofs.Common.{◌≡◌, ◌<◌, ◌≤◌, ◌+◌, ℕ, List, length, [], ◌∷◌, ◌++◌, refl, sym, ◌∙◌, ap, subst, arith, length-append}
-use Rattle.log_disk.specs.declared.plan.Plan.{Plan}
+use Rattle.log_disk.specs.declared.allowance.Allowance.{Allowance}
 use Rattle.log_disk.specs.declared.memory.Range.{Range}
 use Rattle.log_disk.specs.Pending.{lasting, put, after, after_all}
 use Rattle.log_disk.specs.Pending.Step.{Wrote}
@@ -16,12 +16,12 @@ invariant_of-self c =
     let r = c.self.invariant.1 in
     let past = after_all (steps_of c.self.inside.calls.items c.self.inside.texts.items) (lasting c.self.inside.start.items) in
     let fits = has_room (length c.args.bytes.now) c.args.self.now c.requires.room in
-    let some : 0 < c.self.inside.plan.calls = omega (arith, fits.1, ap (λ (s : MemoryState). s.calls) c.self.view_is) in
-    let calls : c.count.new.self.calls + 1 ≡ c.self.inside.plan.calls = omega (arith, some, ap (λ (p : Plan). p.calls) c.count.ensures) in
-    let fits_room : length c.args.bytes.now ≤ c.self.inside.plan.room = omega (arith, fits.0, ap (λ (s : MemoryState). s.room) c.self.view_is) in
+    let some : 0 < c.self.inside.allowance.calls = omega (arith, fits.1, ap (λ (s : MemoryState). s.calls) c.self.view_is) in
+    let calls : c.count.new.self.calls + 1 ≡ c.self.inside.allowance.calls = omega (arith, some, ap (λ (p : Allowance). p.calls) c.count.ensures) in
+    let fits_room : length c.args.bytes.now ≤ c.self.inside.allowance.room = omega (arith, fits.0, ap (λ (s : MemoryState). s.room) c.self.view_is) in
     let more = ap length c.push-2.ensures.items in
     let place : c.args.place ≤ length past.bytes = subst (λ (s : MemoryState). c.args.place ≤ length (content s).bytes) (sym c.self.view_is) c.requires.place in
-    let room : c.count.new.self.room + length c.args.bytes.now ≡ c.self.inside.plan.room = omega (arith, fits_room, ap (λ (p : Plan). p.room) c.count.ensures) in
+    let room : c.count.new.self.room + length c.args.bytes.now ≡ c.self.inside.allowance.room = omega (arith, fits_room, ap (λ (p : Allowance). p.room) c.count.ensures) in
     let ranges = ap length c.push.ensures.items in
     let texts = ap length c.append.ensures.items in
     let wider = c.put.ensures.length in
@@ -51,7 +51,7 @@ returns c =
       steps = more i;
       room = (plan i).room;
       calls = (plan i).calls;
-      fails = (plan i).fails.items;
-      next = (plan i).next;
-      faults = (plan i).faults;
+      fails = (plan i).plan.fails.items;
+      next = (plan i).plan.calls;
+      faults = (plan i).plan.faults;
     })

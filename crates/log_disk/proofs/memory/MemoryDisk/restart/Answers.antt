@@ -1,5 +1,5 @@
 use Rattle.std.proofs.Common.{◌≡◌, length, ap, arith, ◌∙◌}
-use Rattle.log_disk.specs.declared.plan.Plan.{Plan}
+use Rattle.log_disk.specs.declared.allowance.Allowance.{Allowance}
 use Rattle.log_disk.proofs.Past.{restarted}
 use Rattle.log_disk.proofs.memory.MemoryDisk.restart.Goals as goal
 
@@ -7,8 +7,8 @@ pub invariant_of-self : goal.invariant_of-self
 invariant_of-self c =
     let r = c.self.invariant.1 in
     let old = c.self.invariant.0 in
-    let room : c.restart.new.self.room ≡ c.self.inside.plan.room = ap (λ (p : Plan). p.room) c.restart.ensures.rest in
-    let calls : c.restart.new.self.calls ≡ c.self.inside.plan.calls = ap (λ (p : Plan). p.calls) c.restart.ensures.rest in
+    let room : c.restart.new.self.room ≡ c.self.inside.allowance.room = ap (λ (p : Allowance). p.room) c.restart.ensures.rest in
+    let calls : c.restart.new.self.calls ≡ c.self.inside.allowance.calls = ap (λ (p : Allowance). p.calls) c.restart.ensures.rest in
     let synced = c.copy.ensures.items ∙ c.deref-3.ensures.value in
     let start = c.copy-2.ensures.items ∙ c.deref-4.ensures.value in
     let copied = ap length synced in
