@@ -25,12 +25,17 @@ pub(crate) fn change(
     ensures err { OnErr result (rows_in entries.new.entries ≡ rows_in entries.old.entries) }
 {
     let copies = copy_changes(alloc, changes)?;
-    let made = make_room(entries, changes);
-    if made.is_ok() {
-        write(entries, copies);
+    match make_room(entries, changes) {
+        Ok(()) => {
+            write(entries, copies);
+            drop_deleted(entries, changes);
+            Ok(())
+        }
+        Err(fault) => {
+            drop_room(entries, changes);
+            Err(fault)
+        }
     }
-    drop_room(entries, changes);
-    made
 }
 
 // Makes room for each name that changes. Rows stay as they are, and so does room.
@@ -74,6 +79,17 @@ fn write_one(entries: &mut Entries, change: Change)
     let name = change.name();
     let before: Result<_, _> = entries.insert(name, change.put);
     let _ = before.unwrap();
+}
+
+// Drops the room of names that these changes deleted. The others have a row, so that they need not be looked up again.
+fn drop_deleted(entries: &mut Entries, changes: &[Change])
+    ensures { rows_in entries.new.entries ≡ rows_in entries.old.entries }
+{
+    for change in changes {
+        if change.put.is_none() {
+            drop_room_for(entries, &change.name());
+        }
+    }
 }
 
 // Drops the room that these changes left without a row.

@@ -1,3 +1,4 @@
+pub mod ByteSearch
 pub mod Changes
 pub mod HexText
 pub mod ChangeTexts

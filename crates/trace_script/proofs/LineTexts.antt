@@ -1,5 +1,5 @@
 -- Lines and their texts.
-use Rattle.std.proofs.Common.{◌≡◌, ℕ, ◌^◌, ◌<◌, ◌≤◌, Bool, true, false, not, if◌then◌else◌, ◌==◌, inl, inr, nat_le, List, [], ◌∷◌, length, map, codes, Option, Some, None, Result, Ok, Err, refl, sym, ap, ◌∙◌, arith, lit<}
+use Rattle.std.proofs.Common.{◌≡◌, ℕ, ◌^◌, ◌<◌, ◌≤◌, Bool, true, false, not, ◌&&◌, if◌then◌else◌, ◌==◌, inl, inr, nat_le, List, [], ◌∷◌, length, map, codes, Option, Some, None, Result, Ok, Err, refl, sym, ap, ◌∙◌, arith, lit<}
 use Rattle.std.specs.Prelude.{decimal, bytes_eq, IfOk, IsErrOf}
 use Rattle.std.specs.List.{list_all, list_any, AllByRecursion, join_with_byte}
 use Rattle.std.proofs.lemmas.Bool.{and_parts, and_from, not_from_false, cases_Bool, leb-true, le-leb, ne_eqb}
@@ -380,10 +380,23 @@ no_line text full bad =
       | inr none ↦ rw (none, full) (no_words text bad)
     ]
 
--- any other is the line of its words
-pub line_of_words : (text : List ℕ) → is_blank text ≡ false → may_be_words text ≡ true → line_of text ≡ words_line (words_of text)
+-- nor is one with a CR
+pub line_of_return : (text : List ℕ) → list_any (λ b. b == 13) text ≡ true → line_of text ≡ None
 unfolding line_of
-line_of_words text full may = rw (no_return_there text (and_parts (list_all is_line_byte text) (not (has_empty (words_of text))) may).0, full) refl
+line_of_return text h = rw h refl
+
+and_not : (b c : Bool) → c ≡ true → (b && not c) ≡ false
+and_not true c h = rw h refl
+and_not false c h = refl
+
+-- nor one with an empty word
+pub line_of_empty : (text : List ℕ) → is_blank text ≡ false → has_empty (words_of text) ≡ true → line_of text ≡ None
+line_of_empty text full empty = no_line text full (and_not (list_all is_line_byte text) (has_empty (words_of text)) empty)
+
+-- any other is the line of its words
+pub line_of_some : (text : List ℕ) → is_blank text ≡ false → list_any (λ b. b == 13) text ≡ false → line_of text ≡ words_line (words_of text)
+unfolding line_of
+line_of_some text full none = rw (none, full) refl
 
 from_words : (word : List ℕ) (words : List (List ℕ)) (line : Line) → AllByRecursion IsWord (word ∷ words)
     → is_blank (join_with_byte 32 (word ∷ words)) ≡ false → words_line (word ∷ words) ≡ Some line → line_of (join_with_byte 32 (word ∷ words)) ≡ Some line

@@ -10,6 +10,7 @@ use crate::change::changes;
 use crate::fault::LineFault;
 use crate::line::{Line, MAX_COUNT, MAX_REPLY, MAX_ROOM, MAX_WINDOWS, MIN_ROOM};
 use crate::name::Name;
+use memchr::memchr;
 use bus_types::{Changes, MAX_SCN, read_number};
 use partition_filter::{Filter, FilterFault};
 use std::alloc::{AllocError, Global};
@@ -57,14 +58,33 @@ fn blank(text: &[u8]) -> Option<Line>
     }
 }
 
-/// The line of a text that isn't blank.
-#[tactic(auto, using(crate::proofs::LineTexts::no_line, crate::proofs::LineTexts::line_of_words))]
+/// The line of a text that isn't blank. Its bytes are looked at one by one only where memory ran out.
+#[tactic(auto, using(crate::proofs::LineTexts::no_line))]
 fn full_line(alloc: Global, text: &[u8]) -> Result<Line, LineFault>
     requires { is_blank text.now ≡ false }
     ensures exact { Reads (λ line. line) result (line_of text.now) }
     ensures memory { IsErrOf result LineFault.NoMemory → may_be_words text.now ≡ true }
 {
-    if !may_be_words(text) {
+    match line_in_words(alloc, text) {
+        Ok(line) => Ok(line),
+        Err(LineFault::BadLine) => Err(LineFault::BadLine),
+        Err(LineFault::NoMemory) => {
+            if may_be_words(text) {
+                Err(LineFault::NoMemory)
+            } else {
+                Err(LineFault::BadLine)
+            }
+        }
+    }
+}
+
+/// The line that a text, which isn't blank, spells in words. An empty word is refused before the words are gathered.
+#[tactic(auto, using(crate::proofs::LineTexts::line_of_return, crate::proofs::LineTexts::line_of_empty, crate::proofs::LineTexts::line_of_some))]
+fn line_in_words(alloc: Global, text: &[u8]) -> Result<Line, LineFault>
+    requires { is_blank text.now ≡ false }
+    ensures { Reads (λ line. line) result (line_of text.now) }
+{
+    if has_carriage_return(text) || has_empty_word(text) {
         return Err(LineFault::BadLine);
     }
     let words = words(alloc, text)?;
@@ -89,7 +109,7 @@ fn all_in_words(text: &[u8]) -> bool
 fn has_carriage_return(text: &[u8]) -> bool
     ensures { result ≡ list_any (λ b. b == 13) text.now }
 {
-    text.iter().any(|b| *b == b'\r')
+    memchr(b'\r', text).is_some()
 }
 
 /// Whether the text is empty or a comment.
