@@ -10,8 +10,8 @@ use crate::change::changes;
 use crate::fault::LineFault;
 use crate::line::{Line, MAX_COUNT, MAX_REPLY, MAX_ROOM, MAX_WINDOWS, MIN_ROOM};
 use crate::name::Name;
-use memchr::memchr;
 use bus_types::{Changes, MAX_SCN, read_number};
+use memchr::memchr;
 use partition_filter::{Filter, FilterFault};
 use std::alloc::{AllocError, Global};
 
