@@ -1,4 +1,4 @@
-ghost use Rattle.std.specs.Prelude.{◌≡◌, ◌+◌, ◌*◌, ◌^◌, ◌<◌, ◌≤◌, ◌++◌, ◌∷◌, [], Bool, true, false, List, length, drop, nat_lt, slice_get, Some, IfOk, MatchOption};
+ghost use Rattle.std.specs.Prelude.{◌≡◌, ◌+◌, ◌-◌, ◌*◌, ◌/◌, ◌^◌, ◌<◌, ◌≤◌, ◌++◌, ◌∷◌, [], Bool, true, false, List, length, drop, nat_lt, slice_get, Some, IfOk, MatchOption};
 ghost use Rattle.scn_index.specs.Index.{AreBelow, AreAbove, IsGreatest, IsQuick};
 
 use crate::steps::Steps;
@@ -34,6 +34,15 @@ struct Search {
 }
 
 impl Search {
+    // The place in its middle.
+    fn middle(self) -> usize
+        requires { self.low < self.high }
+        ensures { result ≡ self.low + (self.high - self.low) / 2 }
+    {
+        let half = (self.high - self.low) / 2;
+        self.low + half
+    }
+
     // What is left of it once the entry in its middle was read.
     fn narrowed(self, middle: usize, entry: (u64, u64), scn: u64) -> Search
         requires { middle < self.high }
@@ -113,7 +122,7 @@ impl ScnIndex {
             found: None,
         };
         while search.low < search.high {
-            let middle = search.low + (search.high - search.low) / 2;
+            let middle = search.middle();
             search = search.narrowed(middle, self.entry(middle, steps), scn);
         }
         search.found

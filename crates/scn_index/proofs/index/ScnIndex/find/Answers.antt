@@ -11,7 +11,7 @@ loop-search-preserved g c =
     let low = c.narrowed-search.ensures.low in
     let high = c.narrowed-search.ensures.high in
     let steps = steps_on c.args.scn c.args.self.now.entries c.args.steps.now c.loop-search.steps c.entry.new.steps s.low s.high _ s.found c.entry.result
-    c.narrowed-search.result.low c.narrowed-search.result.high c.narrowed-search.result.found rising c.loop-search-test.true refl c.entry.ensures.entry c.entry.ensures.counted
+    c.narrowed-search.result.low c.narrowed-search.result.high c.narrowed-search.result.found rising c.loop-search-test.true c.middle-middle.ensures c.entry.ensures.entry c.entry.ensures.counted
     (λ upto. (ap (λ x. x.low) (low upto), ap (λ x. x.high) (low upto), ap (λ x. x.found) (low upto)))
     (λ over. (ap (λ x. x.low) (high over), ap (λ x. x.high) (high over), ap (λ x. x.found) (high over)))
     h.searches h.reads in
