@@ -1,0 +1,111 @@
+ghost use Rattle.std.specs.Prelude.{◌≡◌, ◌+◌, ◌-◌, ◌≤◌, ◌++◌, [], length, take, drop, slice_index, IfOk};
+ghost use Rattle.std.specs.Int.{w64};
+ghost use Rattle.event_codec.specs.Reading.{number_at};
+
+use bus_types::NoMemory;
+use circular_buffer::HeapCircularBuffer;
+use std::alloc::Global;
+use std::marker::Model;
+
+/// Bytes in one block, which begin anywhere in it and go on at its start. Contracts see the bytes, and how many there may
+/// be.
+#[derive(Drop)]
+pub(crate) struct Circle {
+    bytes: HeapCircularBuffer<u8>,
+}
+
+impl Model for Circle {
+    ghost use Rattle.byte_ring.specs.Kept.{Bytes};
+
+    ghost Value = { Bytes };
+
+    ghost view = { λ c. record { bytes = c.bytes.items; room = c.bytes.capacity } };
+}
+
+impl Circle {
+    /// A circle for so many bytes, which has none.
+    pub fn new(alloc: Global, room: u64) -> Result<Circle, NoMemory>
+        ensures { IfOk result (λ c. c ≡ record { bytes = []; room = room }) }
+    {
+        Ok(Circle {
+            bytes: HeapCircularBuffer::with_capacity(alloc, room as usize)?,
+        })
+    }
+
+    /// How many bytes it may have.
+    pub fn room(&self) -> usize
+        ensures { result ≡ self.now.room }
+    {
+        self.bytes.capacity()
+    }
+
+    /// How many bytes it has.
+    pub fn len(&self) -> usize
+        ensures { result ≡ length self.now.bytes }
+    {
+        self.bytes.len()
+    }
+
+    /// Appends bytes, for which there is room.
+    pub fn push(&mut self, part: &[u8])
+        requires { length self.old.bytes + length part.now ≤ self.old.room }
+        ensures { self.new ≡ record { bytes = self.old.bytes ++ part.now; room = self.old.room } }
+    {
+        let _count = self.bytes.fill_from_slice(part);
+    }
+
+    /// Drops so many bytes at the front.
+    pub fn drop_front(&mut self, count: usize)
+        requires { count ≤ length self.old.bytes }
+        ensures { self.new ≡ record { bytes = drop count self.old.bytes; room = self.old.room } }
+    {
+        self.bytes.truncate_front(self.bytes.len() - count);
+    }
+
+    /// So many bytes from a place on, in two parts where they go on at the start of the block.
+    pub fn part(&self, from: usize, count: usize) -> (&[u8], &[u8])
+        requires { from + count ≤ length self.now.bytes }
+        ensures { result.0.now ++ result.1.now ≡ take count (drop from self.now.bytes) }
+    {
+        let (front, back) = self.bytes.as_slices();
+        let end = from + count;
+        if end <= front.len() {
+            return (&front[from..end], &[]);
+        }
+        if from >= front.len() {
+            let from = from - front.len();
+            return (&back[from..from + count], &[]);
+        }
+        (&front[from..], &back[..end - front.len()])
+    }
+
+    // The byte at a place.
+    fn byte(&self, at: usize) -> u8
+        requires { at + 1 ≤ length self.now.bytes }
+        ensures { result ≡ slice_index self.now.bytes at }
+    {
+        let Some(byte) = self.bytes.get(at) else {
+            unreachable!();
+        };
+        *byte
+    }
+
+    /// The number of eight bytes at a place.
+    #[tactic(auto, using(event_codec::proofs::Numbers::numbers))]
+    pub fn number(&self, at: usize) -> u64
+        requires { at + 8 ≤ length self.now.bytes }
+        ensures { result ≡ number_at w64 at self.now.bytes }
+    {
+        let _within = self.bytes.len();
+        u64::from_be_bytes([
+            self.byte(at),
+            self.byte(at + 1),
+            self.byte(at + 2),
+            self.byte(at + 3),
+            self.byte(at + 4),
+            self.byte(at + 5),
+            self.byte(at + 6),
+            self.byte(at + 7),
+        ])
+    }
+}
