@@ -11,16 +11,10 @@ import subprocess
 import sys
 import tempfile
 
-HERE = pathlib.Path(__file__).resolve().parent
-PROGRAM = HERE.parent / "crates/databus/out/databus"
+from built import HERE, PROGRAM, need_program, processor
+
 TIME = pathlib.Path("/usr/bin/time")
 RUNS = 7
-
-
-def processor():
-    with open("/proc/cpuinfo", encoding="utf-8") as info:
-        names = [line.split(":", 1)[1].strip() for line in info if line.startswith("model name")]
-    return f"{len(names)} x {names[0]}" if names else "an unknown processor"
 
 
 def run(text):
@@ -67,8 +61,7 @@ def scripts(generator, size):
 
 def main():
     generator, *sizes = sys.argv[1:]
-    if not PROGRAM.exists():
-        sys.exit("build the program first: (cd crates/databus && rt run -- trace < ../../examples/first.databus)")
+    need_program()
     print(processor())
     print(f"{'script':>26} {'replies':>8} {'sent':>8} {'windows':>8} {'seconds':>9} {'us/sent':>8} {'us/window':>10} {'peaks KiB':>15}")
     made = {size: scripts(generator, size) for size in sizes}

@@ -4,21 +4,14 @@ five runs. Each script is what `GENERATOR COUNT` prints, or `GENERATOR COUNT ROW
 
 Usage: timed.py GENERATOR COUNT[/ROWS] ..
 """
-import pathlib
 import subprocess
 import sys
 import tempfile
 import time
 
-HERE = pathlib.Path(__file__).resolve().parent
-PROGRAM = HERE.parent / "crates/databus/out/databus"
+from built import HERE, PROGRAM, need_program, processor
+
 RUNS = 5
-
-
-def processor():
-    with open("/proc/cpuinfo", encoding="utf-8") as info:
-        names = [line.split(":", 1)[1].strip() for line in info if line.startswith("model name")]
-    return f"{len(names)} x {names[0]}" if names else "an unknown processor"
 
 
 def seconds_of(script):
@@ -30,8 +23,7 @@ def seconds_of(script):
 
 def main():
     generator, *sizes = sys.argv[1:]
-    if not PROGRAM.exists():
-        sys.exit("build the program first: (cd crates/databus && rt run -- trace < ../../examples/first.databus)")
+    need_program()
     print(processor())
     print(f"{'commits':>8} {'rows':>6} {'lines':>8} {'seconds':>9} {'us/commit':>10} {'lines/s':>10}")
     for size in sizes:
