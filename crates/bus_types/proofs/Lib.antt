@@ -7,5 +7,6 @@ pub mod Places
 pub mod Runs
 pub mod Options
 pub mod Numbers
+pub mod CursorTexts
 pub mod Cuts
 pub mod Feeding

@@ -1,6 +1,10 @@
--- Texts: numbers in decimal, and what stands before and after a byte.
-use Rattle.std.specs.Prelude.{◌≡◌, ℕ, ◌+◌, ◌-◌, ◌*◌, ◌^◌, Bool, if◌then◌else◌, ◌==◌, ◌||◌, ◌&&◌, nat_lt, nat_le, List, [], ◌∷◌, ◌++◌, length, take, drop, position, slice_index, Option, Some, None, option_and_then, option_map, Result, Ok, Err}
+-- Texts: numbers in decimal, what stands before and after a byte, and cursors.
+use Rattle.std.specs.Prelude.{◌≡◌, ℕ, ◌+◌, ◌-◌, ◌*◌, ◌^◌, ◌<◌, Bool, if◌then◌else◌, ◌==◌, ◌||◌, ◌&&◌, nat_lt, nat_le, List, [], ◌∷◌, ◌++◌, length, take, drop, position, slice_index, codes, decimal, bytes_eq, Option, Some, None, option_and_then, option_map, Result, Ok, Err}
 use Rattle.std.specs.List.{list_all}
+use Rattle.bus_types.specs.declared.change.Key.TheVariants.{Long}
+use Rattle.bus_types.specs.declared.row.Cursor.{Cursor}
+use Rattle.bus_types.specs.declared.row.Cursor.TheVariants.{Start, After}
+use Rattle.bus_types.specs.Change.{IsKey, key_text}
 
 -- one step that may fail behind another
 infixl 10 ◌>>=◌
@@ -37,3 +41,27 @@ u64_of n = if nat_lt n (2 ^ 64) then Some n else None
 abbrev pub Appends : {T E : Type 0} → Result T E → List ℕ → List ℕ → List ℕ → Type 0
 Appends (Ok done) text old new = new ≡ old ++ text
 Appends (Err fault) text old new = take (length old) new ≡ old
+
+-- ---- cursors
+
+-- the numbers of a cursor are in the ranges of their types
+abbrev pub IsCursor : Cursor → Type 0
+IsCursor Start = Unit {0}
+IsCursor (After source key) = (source < 2 ^ 16) × IsKey key
+
+-- `start`, or the source and the key of the row before
+abbrev pub cursor_text : Cursor → List ℕ
+cursor_text Start = codes "start"
+cursor_text (After source key) = decimal source ++ codes "/" ++ key_text key
+
+-- `S/K`
+unfoldable pub after_of : List ℕ → Option Cursor
+after_of text = do
+  parts ← cut_at 47 text
+  source ← number_of 65535 parts.0
+  key ← number_of max_u64 parts.1
+  Some (After source (Long key))
+
+-- the cursor that a text spells, `start` or `S/K`
+unfoldable pub cursor_of : List ℕ → Option Cursor
+cursor_of text = if bytes_eq text (codes "start") then Some Start else after_of text

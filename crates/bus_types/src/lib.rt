@@ -33,6 +33,6 @@ pub use limits::{MAX_CHANGES, MAX_PAYLOAD, MAX_SCN, MAX_WINDOW};
 pub use payload::{Payload, PayloadFault};
 pub use plan::Plan;
 pub use row::{Cursor, MarkText, Row, Rows};
-pub use text::{cut_text, read_number};
+pub use text::{cursor_text, cut_text, read_cursor, read_number};
 pub use timeline::{Timeline, Untold};
 pub use window::{Window, WindowFault, copy_changes};

@@ -1,6 +1,10 @@
-ghost use Rattle.std.specs.Prelude.{◌≡◌, ◌==◌, ◌<◌, ◌+◌, ◌-◌, ◌*◌, ◌≤◌, length, position, option_map, IfSome};
+ghost use Rattle.std.specs.Prelude.{◌≡◌, ◌==◌, ◌<◌, ◌+◌, ◌-◌, ◌*◌, ◌≤◌, length, position, option_map, string_bytes, IfOk, IfSome};
 ghost use Rattle.std.specs.List.{list_all};
-ghost use Rattle.bus_types.specs.Text.{is_digit, is_numeral, number_of, value_from, u64_of, cut_at};
+ghost use Rattle.bus_types.specs.Text.{is_digit, is_numeral, number_of, value_from, u64_of, cut_at, after_of, cursor_of, cursor_text};
+
+use crate::change::Key;
+use crate::row::Cursor;
+use std::alloc::{AllocError, Global};
 
 /// The number that the bytes spell in decimal, without sign or leading zero, where it is at most `max`. `None` comes
 /// exactly where they spell none such.
@@ -23,6 +27,49 @@ pub fn cut_text(byte: u8, bytes: &[u8]) -> Option<(&[u8], &[u8])>
 {
     let at = place_of(byte, bytes)?;
     Some((&bytes[..at], &bytes[at + 1..]))
+}
+
+/// The cursor that a text spells: `start`, or `S/K`, the source and the key of the row before. `None` comes exactly where it
+/// spells none.
+#[tactic(auto, unfolding(crate::specs::Text::cursor_of))]
+pub fn read_cursor(text: &[u8]) -> Option<Cursor>
+    ensures { result ≡ cursor_of text.now }
+{
+    if text == b"start".as_slice() {
+        return Some(Cursor::Start);
+    }
+    read_after(text)
+}
+
+#[tactic(auto, unfolding(crate::specs::Text::after_of))]
+fn read_after(text: &[u8]) -> Option<Cursor>
+    ensures { result ≡ after_of text.now }
+{
+    let (source, key) = cut_text(b'/', text)?;
+    let source = read_number(source, 65535)?;
+    let key = read_number(key, u64::MAX)?;
+    Some(Cursor::After {
+        source: source as u16,
+        key: Key::Long(key),
+    })
+}
+
+/// The text of a cursor, which [`read_cursor`] reads back.
+pub fn cursor_text(alloc: Global, cursor: Cursor) -> Result<String, AllocError>
+    ensures { IfOk result (λ text. string_bytes text ≡ cursor_text cursor) }
+{
+    match cursor {
+        Cursor::Start => String::from_str(alloc, "start"),
+        Cursor::After { source, key } => after_text(alloc, source, key),
+    }
+}
+
+fn after_text(alloc: Global, source: u16, key: Key) -> Result<String, AllocError>
+    ensures { IfOk result (λ text. string_bytes text ≡ cursor_text (Cursor.After source key)) }
+{
+    let Key::Long(key) = key;
+    let text = format!(in alloc; "{source}/{key}")?;
+    Ok(text)
 }
 
 fn place_of(byte: u8, bytes: &[u8]) -> Option<usize>

@@ -159,6 +159,13 @@ impl Window {
         &self.changes
     }
 
+    /// The changes, in order, of a window that is given up. It takes no memory, and no payload is copied.
+    pub fn into_changes(self) -> Vec<Change>
+        ensures { result.items ≡ self.changes }
+    {
+        self.changes
+    }
+
     /// The bytes that it takes on the wire: its events and its end-of-period mark. It takes no pass over the changes.
     pub fn size(&self) -> u64
         ensures value { result ≡ span_size self.now }

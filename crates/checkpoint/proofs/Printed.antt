@@ -5,7 +5,8 @@ use Rattle.serde_json.specs.Data.{Data}
 use Rattle.serde_json.specs.Written.{has_float, compact_text}
 use Rattle.checkpoint.specs.declared.mark.Mark.{Mark}
 use Rattle.checkpoint.specs.declared.mark.Mark.TheVariants.{Online, Delta, Snapshot, Scanned, Catchup}
-use Rattle.checkpoint.specs.Mark.{IsMark, cursor_text, mark_text}
+use Rattle.bus_types.specs.Text.{cursor_text}
+use Rattle.checkpoint.specs.Mark.{IsMark, mark_text}
 use Rattle.checkpoint.specs.Members.{data_of}
 use Rattle.checkpoint.proofs.Cursors.{escape-cursor_text}
 

@@ -19,9 +19,10 @@ use Rattle.serde_json.proofs.Numbers.{number_of-decimal}
 use Rattle.serde_json.proofs.Texts.{print-outline}
 use Rattle.checkpoint.specs.declared.mark.Mark.{Mark}
 use Rattle.checkpoint.specs.declared.mark.Mark.TheVariants.{Online, Delta, Snapshot, Scanned, Catchup}
-use Rattle.checkpoint.specs.Mark.{IsCursor, IsMark, cursor_text, mark_text}
+use Rattle.bus_types.specs.Text.{IsCursor, cursor_text}
+use Rattle.checkpoint.specs.Mark.{IsMark, mark_text}
 use Rattle.checkpoint.specs.Members.{data_of, online_in, delta_in, snapshot_in, scanned_in, catchup_in, mode_in, mark_in}
-use Rattle.checkpoint.proofs.Cursors.{cursor_again}
+use Rattle.bus_types.proofs.CursorTexts.{cursor_again}
 use Rattle.checkpoint.proofs.Printed.{compact_text-data_of}
 
 -- ---- from the text to the members

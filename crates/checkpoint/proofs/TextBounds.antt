@@ -6,7 +6,8 @@ use Rattle.bus_types.specs.declared.row.Cursor.{Cursor}
 use Rattle.bus_types.specs.declared.row.Cursor.TheVariants.{Start, After}
 use Rattle.checkpoint.specs.declared.mark.Mark.{Mark}
 use Rattle.checkpoint.specs.declared.mark.Mark.TheVariants.{Online, Delta, Snapshot, Scanned, Catchup}
-use Rattle.checkpoint.specs.Mark.{IsCursor, IsMark, cursor_text, mark_text, MayBeMark}
+use Rattle.bus_types.specs.Text.{IsCursor, cursor_text}
+use Rattle.checkpoint.specs.Mark.{IsMark, mark_text, MayBeMark}
 
 -- ---- the length of pieces one after another
 

@@ -1,16 +1,10 @@
 -- Marks: their rules, and the one text of each.
 use Rattle.std.specs.Prelude.{◌≡◌, ℕ, ◌<◌, ◌≤◌, ◌^◌, List, ◌++◌, length, get_or, codes, decimal}
 use Rattle.bus_types.specs.declared.row.Cursor.{Cursor}
-use Rattle.bus_types.specs.declared.row.Cursor.TheVariants.{Start, After}
 use Rattle.bus_types.specs.declared.limits.TheConstants.{MAX_SCN}
-use Rattle.bus_types.specs.Change.{IsKey, key_text}
+use Rattle.bus_types.specs.Text.{IsCursor, cursor_text}
 use Rattle.checkpoint.specs.declared.mark.Mark.{Mark}
 use Rattle.checkpoint.specs.declared.mark.Mark.TheVariants.{Online, Delta, Snapshot, Scanned, Catchup}
-
--- the numbers of a cursor are in the ranges of their types
-abbrev pub IsCursor : Cursor → Type 0
-IsCursor Start = Unit {0}
-IsCursor (After source key) = (source < 2 ^ 16) × IsKey key
 
 -- a mark keeps the rule of its kind, and its SCNs are at most MAX_SCN
 abbrev pub IsMark : Mark → Type 0
@@ -19,11 +13,6 @@ IsMark (Delta since target cursor) = (since < target) × (target ≤ MAX_SCN) ×
 IsMark (Snapshot since start top cursor) = (start ≤ top) × (since ≤ MAX_SCN) × (top ≤ MAX_SCN) × IsCursor cursor
 IsMark (Scanned since start top) = (start ≤ top) × (since ≤ MAX_SCN) × (top ≤ MAX_SCN)
 IsMark (Catchup since start target at) = (start ≤ at) × (at < target) × (since ≤ target) × (target ≤ MAX_SCN)
-
--- `start`, or the source and the key of the row before
-abbrev pub cursor_text : Cursor → List ℕ
-cursor_text Start = codes "start"
-cursor_text (After source key) = decimal source ++ codes "/" ++ key_text key
 
 -- compact JSON, the members in the order of their names
 abbrev pub mark_text : Mark → List ℕ

@@ -1,14 +1,11 @@
 -- A mark as a JSON object, and the mark that a JSON object holds, whatever else stands in it.
 use Rattle.std.specs.Prelude.{ℕ, if◌then◌else◌, List, codes, bytes_eq, Option, Some, None, option_and_then}
-use Rattle.bus_types.specs.declared.change.Key.TheVariants.{Long}
 use Rattle.bus_types.specs.declared.row.Cursor.{Cursor}
-use Rattle.bus_types.specs.declared.row.Cursor.TheVariants.{Start, After}
-use Rattle.bus_types.specs.Text.{◌>>=◌, cut_at, number_of, max_u64}
+use Rattle.bus_types.specs.Text.{◌>>=◌, cursor_text, cursor_of}
 use Rattle.serde_json.specs.Data.{Data, number, unsigned, string, object, member, no_members}
 use Rattle.serde_json.specs.Find.{get, as_str, as_number, as_u64}
 use Rattle.checkpoint.specs.declared.mark.Mark.{Mark}
 use Rattle.checkpoint.specs.declared.mark.Mark.TheVariants.{Online, Delta, Snapshot, Scanned, Catchup}
-use Rattle.checkpoint.specs.Mark.{cursor_text}
 
 -- ---- from a mark
 
@@ -48,18 +45,6 @@ text_at name d = option_and_then as_str (get name d)
 -- a member that is a whole number below 2 to the 64
 abbrev pub number_at : List ℕ → Data → Option ℕ
 number_at name d = option_and_then as_u64 (option_and_then as_number (get name d))
-
--- `S/K`
-unfoldable pub after_of : List ℕ → Option Cursor
-after_of text = do
-  parts ← cut_at 47 text
-  source ← number_of 65535 parts.0
-  key ← number_of max_u64 parts.1
-  Some (After source (Long key))
-
--- `start` or `S/K`
-unfoldable pub cursor_of : List ℕ → Option Cursor
-cursor_of text = if bytes_eq text (codes "start") then Some Start else after_of text
 
 -- the member `cursor`
 abbrev pub cursor_at : Data → Option Cursor

@@ -3,7 +3,6 @@
 //! by `Mark::read`, and cite `mark_text` and `IsMark` (`specs/`).
 #![tactic(auto)]
 
-mod cursor;
 mod laws;
 mod mark;
 mod reading;

@@ -5,9 +5,8 @@ ghost use Rattle.checkpoint.specs.declared.mark.Mark.{Mark};
 ghost use Rattle.checkpoint.specs.Mark.{IsMark, MayBeMark, mark_text};
 ghost use Rattle.checkpoint.specs.Members.{text_at, number_at, cursor_at, online_in, delta_in, snapshot_in, scanned_in, catchup_in, mode_in, mark_in};
 
-use crate::cursor::cursor_of;
 use crate::mark::{Mark, MarkFault};
-use bus_types::{Cursor, MAX_SCN};
+use bus_types::{Cursor, MAX_SCN, read_cursor};
 use serde_json::Value;
 use std::alloc::Global;
 
@@ -166,7 +165,7 @@ fn catchup_in(value: &Value) -> Option<Mark>
 fn cursor_at(value: &Value) -> Option<Cursor>
     ensures { result ≡ cursor_at (view value.now) }
 {
-    cursor_of(text_at(value, "cursor")?.as_bytes())
+    read_cursor(text_at(value, "cursor")?.as_bytes())
 }
 
 fn text_at<'v>(value: &'v Value, name: &str) -> Option<&'v str>

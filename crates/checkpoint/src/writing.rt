@@ -3,14 +3,36 @@ ghost use Rattle.serde_json.specs.View.{view};
 ghost use Rattle.checkpoint.specs.Mark.{IsMark, mark_text};
 ghost use Rattle.checkpoint.specs.Members.{data_of};
 
-use crate::cursor::cursor_text;
 use crate::mark::Mark;
-use bus_types::Cursor;
+use bus_types::{Cursor, cursor_text};
 use serde_json::{Value, json};
 use std::alloc::{AllocError, Global};
+use std::fmt::Write;
 
-/// The text of a mark.
+/// Room for the text of a mark of a consumer that is online.
+const ONLINE_ROOM: usize = 48;
+
+/// The text of a mark. That of a consumer that is online is written as it is, since each reply of windows sets one.
 pub(crate) fn text_of(alloc: Global, mark: Mark) -> Result<String, AllocError>
+    requires { IsMark mark }
+    ensures { IfOk result (λ text. string_bytes text ≡ mark_text mark) }
+{
+    match mark {
+        Mark::Online { scn } => online_text(alloc, scn),
+        _ => object_text(alloc, mark),
+    }
+}
+
+fn online_text(alloc: Global, scn: u64) -> Result<String, AllocError>
+    ensures { IfOk result (λ text. string_bytes text ≡ mark_text (Mark.Online scn)) }
+{
+    let mut text = String::with_capacity(alloc, ONLINE_ROOM)?;
+    write!(text, "{{\"mode\":\"online\",\"scn\":{scn}}}").or(Err(AllocError))?;
+    Ok(text)
+}
+
+/// The text of a mark as that of a JSON object.
+fn object_text(alloc: Global, mark: Mark) -> Result<String, AllocError>
     requires { IsMark mark }
     ensures { IfOk result (λ text. string_bytes text ≡ mark_text mark) }
 {

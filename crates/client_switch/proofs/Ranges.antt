@@ -16,7 +16,7 @@ use Rattle.bus_types.specs.Table.{RowList, row_after, rows_after, table}
 use Rattle.bus_types.specs.Rows.{is_after, rest_of}
 use Rattle.bus_types.specs.View.{view}
 use Rattle.bus_types.proofs.Stretches.{between_cases}
-use Rattle.checkpoint.specs.Mark.{IsCursor}
+use Rattle.bus_types.specs.Text.{IsCursor}
 use Rattle.event_codec.specs.Chunks.{cursor_after}
 use Rattle.bus_types.specs.Latest.{Latest, latest_after, last_changes, changes_after}
 use Rattle.event_codec.specs.Chunks.{puts_of}

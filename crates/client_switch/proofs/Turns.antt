@@ -27,7 +27,8 @@ use Rattle.event_codec.specs.ReplyViews.{view_of, Spells}
 use Rattle.event_codec.proofs.Parsings.{changes_again}
 use Rattle.checkpoint.specs.declared.mark.Mark.{Mark}
 use Rattle.checkpoint.specs.declared.mark.Mark.TheVariants.{Online, Delta, Snapshot, Scanned, Catchup}
-use Rattle.checkpoint.specs.Mark.{IsCursor, IsMark, floor_of}
+use Rattle.bus_types.specs.Text.{IsCursor}
+use Rattle.checkpoint.specs.Mark.{IsMark, floor_of}
 use Rattle.client_switch.specs.declared.turn.Turn.{Turn as TurnMade}
 use Rattle.client_switch.specs.Moves.{Turn, IsWished, go, changes_of, turn, replayed}
 use Rattle.client_switch.specs.Turning.{CanStand, wish_of, turn_in, CanEnd, CanAnswer, CanFollow, CanHold, CanChange, CanCome, HoldsComing, items_of, mark_after}
