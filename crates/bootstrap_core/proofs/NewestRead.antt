@@ -2,7 +2,7 @@
 use Rattle.std.proofs.Common.{◌≡◌, ℕ, ◌<◌, ◌≤◌, max, List, Option, Some, None, IfSome, Ok, refl, sym, ap, subst, ◌∙◌, arith}
 use Rattle.bus_types.specs.Window.{Span}
 use Rattle.bus_types.specs.Timeline.{end_from, windows_between}
-use Rattle.bus_types.proofs.Stretches.{timeline_rises}
+use Rattle.bus_types.proofs.Stretches.{timeline_rises, between_none}
 use Rattle.bus_stores.specs.Log.{LogState, IsLog, Holds, first_after}
 use Rattle.bus_stores.proofs.Ahead.{Unmoved, unmoved_none, unmoved_more}
 use Rattle.bootstrap_core.specs.Trimming.{scn_upto, ReadsUpto, ReadsNewest}
@@ -68,3 +68,20 @@ newest_done base found upto old now new log s r =
       is = is_done base found upto old.floor old.high old.windows log.holds told s.is;
       roomy = tt;
     }
+
+is_full : (base found upto : ℕ) (told : Option (List Span)) → upto ≤ found
+    → IfSome told (λ ws. end_from base (windows_between base upto ws) ≡ end_from found (windows_between found upto ws))
+    → IfSome told (λ ws. found ≡ end_from base (windows_between base upto ws))
+is_full base found upto None above s = tt
+is_full base found upto (Some ws) above s = sym (s ∙ ap (end_from found) (between_none found upto ws above))
+
+-- none can be left
+pub newest_full : (base found upto : ℕ) (old now : LogState) → upto ≤ found → NewestSo base found upto old now → ReadsNewest base upto old now (Ok found)
+newest_full base found upto old now above s = record {
+  counts = record { faults = s.unmoved.later; failed = tt; sound = tt; room = ap (λ (l : LogState). l.room) s.unmoved.same };
+  same = s.unmoved.same;
+  low = s.low;
+  high = s.high;
+  is = is_full base found upto old.windows above s.is;
+  roomy = tt;
+}

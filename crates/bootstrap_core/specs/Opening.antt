@@ -36,14 +36,14 @@ OpensNot NoMemory log old new = Unit {0}
 
 -- ---- the code's words
 
--- why a text gave no boot mark
-abbrev pub Unread : List ℕ → BootOpen → Type 0
-Unread text BadMark = (mark : BootMark) → IsBootStored (Some text) mark → ⊥
-Unread text (Ahead applied high) = ⊥
-Unread text (Hole base floor) = ⊥
-Unread text LogFailed = ⊥
-Unread text StoreFailed = ⊥
-Unread text NoMemory = Unit {0}
+-- why what is stored gave no boot mark
+abbrev pub Unread : Option (List ℕ) → BootOpen → Type 0
+Unread stored BadMark = (mark : BootMark) → IsBootStored stored mark → ⊥
+Unread stored (Ahead applied high) = ⊥
+Unread stored (Hole base floor) = ⊥
+Unread stored LogFailed = ⊥
+Unread stored StoreFailed = ⊥
+Unread stored NoMemory = Unit {0}
 
 -- why a boot mark doesn't lie between the ends of a log
 abbrev pub IsMisplaced : LogState → BootMark → BootOpen → Type 0

@@ -168,21 +168,24 @@ fn stored_mark<K: Keeper>(alloc: Global, keeper: &mut K) -> Result<BootMark, Boo
     ensures calls { BothTold (λ a b. a ≤ b) (K.state keeper.old).calls (K.state keeper.new).calls }
 {
     match keeper.mark(alloc) {
-        Ok(None) => Ok(BootMark {
-            base: 0,
-            applied: 0,
-        }),
-        Ok(Some(text)) => mark_of(alloc, &text),
+        Ok(stored) => mark_in(alloc, stored),
         Err(StoreFault::Failed) => Err(BootOpen::StoreFailed),
         Err(StoreFault::NoMemory) => Err(BootOpen::NoMemory),
     }
 }
 
-// The boot mark of a text.
-fn mark_of(alloc: Global, text: &MarkText) -> Result<BootMark, BootOpen>
-    ensures stored { IfOk result (IsBootStored (Some text.now)) }
-    ensures fault { IfErr result (Unread text.now) }
+// The boot mark that a stored text is; without one nothing was logged.
+fn mark_in(alloc: Global, stored: Option<MarkText>) -> Result<BootMark, BootOpen>
+    ensures lawful { IfOk result IsBootMark }
+    ensures stored { IfOk result (IsBootStored stored) }
+    ensures fault { IfErr result (Unread stored) }
 {
+    let Some(text) = &stored else {
+        return Ok(BootMark {
+            base: 0,
+            applied: 0,
+        });
+    };
     match read_boot(alloc, text) {
         Ok(mark) => Ok(mark),
         Err(BootTextFault::BadMark) => Err(BootOpen::BadMark),

@@ -194,12 +194,13 @@ fn newest<G: WindowLog>(alloc: Global, log: &mut G, base: u64, upto: u64) -> Res
 {
     let _rising = log.high();
     let mut found = base;
-    'reads: loop {
+    'reads: while found < upto {
         match next_upto(alloc, log, found, upto)? {
             Some(scn) => found = scn,
             None => return Ok(found),
         }
     }
+    Ok(found)
 }
 
 // The SCN of the oldest window behind one SCN, where it isn't above another.

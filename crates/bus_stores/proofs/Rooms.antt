@@ -1,6 +1,6 @@
 -- Entries, and the rows in them.
-use Rattle.std.proofs.Common.{◌≡◌, ℕ, ◌+◌, ◌<◌, ◌&&◌, Bool, true, false, cond, T, List, [], ◌∷◌, ◌++◌, length, take, get_or, Ordering, Less, Equal, Greater, Option, Some, None, option_and_then, is_some, is_eq, is_lt, true≢false, refl, sym, ap, subst, ◌∙◌}
-use Rattle.std.proofs.lemmas.List.{take_more}
+use Rattle.std.proofs.Common.{◌≡◌, ℕ, ◌+◌, ◌<◌, ◌&&◌, Bool, true, false, cond, T, List, [], ◌∷◌, ◌++◌, length, drop, get_or, Ordering, Less, Equal, Greater, Option, Some, None, option_and_then, is_some, is_eq, is_lt, true≢false, refl, sym, ap, ap₂, subst, ◌∙◌}
+use Rattle.std.proofs.lemmas.List.{drop_more}
 use Rattle.std.specs.Option.{IsSome}
 use Rattle.std.specs.Prelude.{Result, Ok, Err, IfOk, OnOk, OnErr, IsOk}
 use Rattle.std.specs.Ordering.{match_ordering}
@@ -18,11 +18,11 @@ use Rattle.bus_types.specs.declared.change.RowName.{RowName}
 use Rattle.bus_types.specs.contracts.change.RowNameOrd.TheImpl.{cmp-value}
 use Rattle.bus_types.specs.Change.{name_cmp, is_name, name_of}
 use Rattle.bus_types.specs.Table.{RowList, row_after, rows_after, payload_at}
-use Rattle.bus_types.proofs.Names.{name_cmp_total}
+use Rattle.bus_types.proofs.Names.{name_cmp_total, name_cmp_exact}
 use Rattle.bus_types.proofs.Entries.{holds, is_true, ordered-insert, lookup-insert}
 use Rattle.bus_types.proofs.TableLaws.{rows_after-ordered, payload_at-row_after, same_rows}
 use Rattle.bus_stores.specs.Keeper.{IsTable}
-use Rattle.bus_stores.specs.Entries.{EntryList, row_in, rows_in, HasRoom, HaveRoom}
+use Rattle.bus_stores.specs.Entries.{EntryList, row_in, rows_in, undone, HasRoom, HaveRoom}
 
 -- ---- the order of names, as their type has it
 
@@ -206,26 +206,58 @@ room_kept old new k put updates q h =
     let found = subst (λ R. lookup (is_at (R q)) new ≡ cond (is_at (R k) q) (Some put) (lookup (is_at (R q)) old)) names_cmp (updates q) in
     still_some (is_at (name_cmp k) q) put (lookup (is_at (name_cmp q)) old) (lookup (is_at (name_cmp q)) new) found h
 
--- ---- room for several changes
+-- ---- changes that are undone
 
-room_push : (old new : EntryList) (done : List Change) (c : Change) → ((q : RowName) → HasRoom old q → HasRoom new q) → HaveRoom old done → HasRoom new (name_of c) → HaveRoom new (done ++ c ∷ [])
-room_push old new [] c kept h one = (one, tt)
-room_push old new (d ∷ ds) c kept h one = (kept (name_of d) h.0, room_push old new ds c kept h.1 one)
+room_push : (old new : EntryList) (before : EntryList) (b : RowName × Option (List ℕ)) → ((q : RowName) → HasRoom old q → HasRoom new q) → HaveRoom old before → HasRoom new b.0 → HaveRoom new (before ++ b ∷ [])
+room_push old new [] b kept h one = (one, tt)
+room_push old new (d ∷ ds) b kept h one = (kept d.0 h.0, room_push old new ds b kept h.1 one)
 
--- room for one change more
-pub room_more : (old new : EntryList) (changes : List Change) (i : ℕ) (c : Change) (name : RowName) → i < length changes → c ≡ get_or changes i c → name ≡ name_of c → ((q : RowName) → HasRoom old q → HasRoom new q) → HaveRoom old (take i changes) → HasRoom new name → HaveRoom new (take (i + 1) changes)
-room_more old new changes i c name lt is named kept h one =
-    let front = take_more changes i c lt ∙ ap (λ d. take i changes ++ d ∷ []) (sym is) in
-    subst (HaveRoom new) (sym front) (room_push old new (take i changes) c kept h (subst (HasRoom new) named one))
+-- room for one name more
+pub room_more : (old new before after : EntryList) (name : RowName) (had : Option (List ℕ)) → after ≡ before ++ (name, had) ∷ [] → ((q : RowName) → HasRoom old q → HasRoom new q) → HasRoom new name → HaveRoom old before → HaveRoom new after
+room_more old new before after name had is kept one h = subst (HaveRoom new) (sym is) (room_push old new before (name, had) kept h one)
 
-rooms_kept : (old new : EntryList) (changes : List Change) → ((q : RowName) → HasRoom old q → HasRoom new q) → HaveRoom old changes → HaveRoom new changes
+-- room for the names but the last one
+pub room_left : (es before rest : EntryList) (b : RowName × Option (List ℕ)) → before ≡ rest ++ b ∷ [] → HaveRoom es before → HaveRoom es rest × HasRoom es b.0
+room_left es before rest b is h = split rest (subst (HaveRoom es) is h) where
+  split : (rest : EntryList) → HaveRoom es (rest ++ b ∷ []) → HaveRoom es rest × HasRoom es b.0
+  split [] p = (tt, p.0)
+  split (d ∷ ds) p = let more = split ds p.1 in ((p.0, more.0), more.1)
+
+pub rooms_kept : (old new before : EntryList) → ((q : RowName) → HasRoom old q → HasRoom new q) → HaveRoom old before → HaveRoom new before
 rooms_kept old new [] kept h = tt
-rooms_kept old new (c ∷ cs) kept h = (kept (name_of c) h.0, rooms_kept old new cs kept h.1)
+rooms_kept old new (b ∷ before) kept h = (kept b.0 h.0, rooms_kept old new before kept h.1)
 
--- room for those that are left when one is made
-pub room_left : (old new : EntryList) (c : Change) (left rest : List Change) → left ≡ c ∷ rest → ((q : RowName) → HasRoom old q → HasRoom new q) → HaveRoom old left → HaveRoom new rest
-room_left old new c left rest e kept h = rooms_kept old new rest kept (subst (HaveRoom old) e h).1
+same_if : (q name : RowName) (rows : RowList) (put : Option (List ℕ)) (b : Bool) → (b ≡ true → q ≡ name) → cond b (payload_at rows name) (cond b put (payload_at rows q)) ≡ payload_at rows q
+same_if q name rows put true is = ap (payload_at rows) (sym (is refl))
+same_if q name rows put false is = refl
 
--- what those that are left make when one is made
-pub rows_left : (old new : EntryList) (c : Change) (left rest : List Change) (all : RowList) → left ≡ c ∷ rest → rows_in new ≡ row_after (rows_in old) (name_of c) c.put → rows_after (rows_in old) left ≡ all → rows_after (rows_in new) rest ≡ all
-rows_left old new c left rest all e made h = ap (λ rows. rows_after rows rest) made ∙ ap (rows_after (rows_in old)) (sym e) ∙ h
+-- a row that has again what it had
+pub restored : (rows : RowList) (name : RowName) (put : Option (List ℕ)) → is_sorted name_cmp rows ≡ true → row_after (row_after rows name put) name (payload_at rows name) ≡ rows
+restored rows name put h =
+    let after = rows_after-ordered rows (record { source = name.source; key = name.key; put = put } ∷ []) h in
+    let back = rows_after-ordered (row_after rows name put) (record { source = name.source; key = name.key; put = payload_at rows name } ∷ []) after in
+    same_rows _ rows back h (λ q.
+    payload_at-row_after (row_after rows name put) name (payload_at rows name) q after
+    ∙ ap (cond (is_name q name) (payload_at rows name)) (payload_at-row_after rows name put q h)
+    ∙ same_if q name rows put (is_name q name) (λ t. name_cmp_exact q name ((Equal-is (name_cmp q name)).0 t)))
+
+undone_push : (rows : RowList) (before : EntryList) (b : RowName × Option (List ℕ)) → undone rows (before ++ b ∷ []) ≡ undone (row_after rows b.0 b.1) before
+undone_push rows [] b = refl
+undone_push rows (d ∷ ds) b = ap (λ r. row_after r d.0 d.1) (undone_push rows ds b)
+
+-- one change more is undone
+pub undone_more : (now new all : RowList) (before after : EntryList) (name : RowName) (put had : Option (List ℕ)) → is_sorted name_cmp now ≡ true → after ≡ before ++ (name, had) ∷ [] → had ≡ payload_at now name → new ≡ row_after now name put
+    → undone now before ≡ all → undone new after ≡ all
+undone_more now new all before after name put had h is found made e =
+    let again : row_after new name had ≡ now = ap₂ (λ rows payload. row_after rows name payload) made found ∙ restored now name put h in
+    ap (undone new) is ∙ undone_push new before (name, had) ∙ ap (λ rows. undone rows before) again ∙ e
+
+-- the last one was undone
+pub undone_left : (now new all : RowList) (before rest : EntryList) (b : RowName × Option (List ℕ)) → before ≡ rest ++ b ∷ [] → new ≡ row_after now b.0 b.1 → undone now before ≡ all → undone new rest ≡ all
+undone_left now new all before rest b is made e = ap (λ rows. undone rows rest) made ∙ sym (undone_push now rest b) ∙ sym (ap (undone now) is) ∙ e
+
+-- one change more is made
+pub made_next : (now new : RowList) (changes : List Change) (i : ℕ) (c : Change) (all : RowList) → i < length changes → c ≡ get_or changes i c → new ≡ row_after now (name_of c) c.put → rows_after now (drop i changes) ≡ all → rows_after new (drop (i + 1) changes) ≡ all
+made_next now new changes i c all lt is made e =
+    let next : drop i changes ≡ c ∷ drop (i + 1) changes = drop_more changes i c lt ∙ ap (λ d. d ∷ drop (i + 1) changes) (sym is) in
+    ap (λ rows. rows_after rows (drop (i + 1) changes)) made ∙ ap (rows_after now) (sym next) ∙ e

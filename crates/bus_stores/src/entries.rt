@@ -1,12 +1,12 @@
-ghost use Rattle.std.specs.Prelude.{◌≡◌, ◌++◌, map, IfOk, OnOk, OnErr};
+ghost use Rattle.std.specs.Prelude.{◌≡◌, ◌≤◌, ◌++◌, [], length, map, option_and_then, vec_capacity, IfOk, OnOk, OnErr};
 ghost use Rattle.bus_types.specs.declared.change.RowName.{RowName};
 ghost use Rattle.bus_types.specs.Change.{name_of};
 ghost use Rattle.bus_types.specs.Rows.{pair_of, page_of};
 ghost use Rattle.bus_types.specs.Table.{row_after, rows_after, payload_at};
 ghost use Rattle.bus_stores.specs.Keeper.{IsTable};
-ghost use Rattle.bus_stores.specs.Entries.{row_in, rows_in, HasRoom, HaveRoom, bound_of};
+ghost use Rattle.bus_stores.specs.Entries.{row_in, rows_in, undone, HasRoom, HaveRoom, bound_of};
 
-use bus_types::{Change, Cursor, NoMemory, Payload, Row, RowName, copy_changes};
+use bus_types::{Change, Cursor, NoMemory, Payload, Row, RowName};
 use std::alloc::Global;
 use std::collections::BTreeMap;
 use std::ops::Bound;
@@ -14,8 +14,11 @@ use std::ops::Bound;
 /// Names in order, each with its row's payload, or with room for one.
 pub(crate) type Entries = BTreeMap<RowName, Option<Payload>>;
 
+/// Names with what each one's row had, in the order in which they changed.
+type Before = Vec<(RowName, Option<Payload>)>;
+
 /// Makes the changes, in order, or none of them. It takes time in proportion to the changes, and a factor that is the
-/// logarithm of the number of entries.
+/// logarithm of the number of entries: each change looks its name up once, and one that deletes twice.
 pub(crate) fn change(
     alloc: Global,
     entries: &mut Entries,
@@ -24,61 +27,87 @@ pub(crate) fn change(
     ensures ok { OnOk result (rows_in entries.new.entries ≡ rows_after (rows_in entries.old.entries) changes.now) }
     ensures err { OnErr result (rows_in entries.new.entries ≡ rows_in entries.old.entries) }
 {
-    let copies = copy_changes(alloc, changes)?;
-    match make_room(entries, changes) {
+    let mut before = Vec::with_capacity(alloc, changes.len())?;
+    match write(alloc, entries, changes, &mut before) {
         Ok(()) => {
-            write(entries, copies);
             drop_deleted(entries, changes);
             Ok(())
         }
         Err(fault) => {
+            undo(entries, before);
             drop_room(entries, changes);
             Err(fault)
         }
     }
 }
 
-// Makes room for each name that changes. Rows stay as they are, and so does room.
-fn make_room(entries: &mut Entries, changes: &[Change]) -> Result<(), NoMemory>
-    ensures rows { rows_in entries.new.entries ≡ rows_in entries.old.entries }
-    ensures room { OnOk result (HaveRoom entries.new.entries changes.now) }
+// Makes the changes, in order, and keeps what each row had before. After want of memory only the first of them are made.
+fn write(
+    alloc: Global,
+    entries: &mut Entries,
+    changes: &[Change],
+    before: &mut Before,
+) -> Result<(), NoMemory>
+    requires none { before.old.items ≡ [] }
+    requires space { length changes.now ≤ vec_capacity before.old }
+    ensures ok { OnOk result (rows_in entries.new.entries ≡ rows_after (rows_in entries.old.entries) changes.now) }
+    ensures undone { undone (rows_in entries.new.entries) before.new.items ≡ rows_in entries.old.entries }
+    ensures room { HaveRoom entries.new.entries before.new.items }
 {
     for change in changes {
-        make_room_for(entries, change.name())?;
+        let had = write_one(alloc, entries, change)?;
+        before.push_reserved((change.name(), had));
     }
     Ok(())
 }
 
-fn make_room_for(entries: &mut Entries, name: RowName) -> Result<(), NoMemory>
-    ensures rows { rows_in entries.new.entries ≡ rows_in entries.old.entries }
-    ensures room { OnOk result (HasRoom entries.new.entries name) }
+// Makes a change, and answers what its row had before. After want of memory the entries are as before.
+fn write_one(
+    alloc: Global,
+    entries: &mut Entries,
+    change: &Change,
+) -> Result<Option<Payload>, NoMemory>
+    ensures rows { OnOk result (rows_in entries.new.entries ≡ row_after (rows_in entries.old.entries) (name_of change.now) change.now.put) }
+    ensures had { IfOk result (λ had. had ≡ payload_at (rows_in entries.old.entries) (name_of change.now)) }
+    ensures err { OnErr result (entries.new.entries ≡ entries.old.entries) }
+    ensures room { OnOk result (HasRoom entries.new.entries (name_of change.now)) }
     ensures kept { (q : RowName) → HasRoom entries.old.entries q → HasRoom entries.new.entries q }
+    ensures ordered { IsTable (rows_in entries.old.entries) }
 {
-    if entries.contains_key(&name) {
-        return Ok(());
-    }
-    entries.insert(name, None)?;
-    Ok(())
+    let _rising = entries.len();
+    let put = copy_put(alloc, &change.put)?;
+    let had = entries.insert(change.name(), put)?;
+    Ok(flat(had))
 }
 
-// Makes changes for which there is room, in order. It takes no memory.
-fn write(entries: &mut Entries, changes: Vec<Change>)
-    requires { HaveRoom entries.old.entries changes.items }
-    ensures { rows_in entries.new.entries ≡ rows_after (rows_in entries.old.entries) changes.items }
+// The payload of an entry, where there is one with a payload.
+fn flat(entry: Option<Option<Payload>>) -> Option<Payload>
+    ensures { result ≡ option_and_then (λ put. put) entry }
 {
-    for change in changes {
-        write_one(entries, change);
+    match entry {
+        None => None,
+        Some(put) => put,
     }
 }
 
-fn write_one(entries: &mut Entries, change: Change)
-    requires { HasRoom entries.old.entries (name_of change) }
-    ensures rows { rows_in entries.new.entries ≡ row_after (rows_in entries.old.entries) (name_of change) change.put }
+// Gives the rows back what they had, the last one first. It takes no memory.
+fn undo(entries: &mut Entries, mut before: Before)
+    requires { HaveRoom entries.old.entries before.items }
+    ensures { rows_in entries.new.entries ≡ undone (rows_in entries.old.entries) before.items }
+{
+    'back: while let Some((name, put)) = before.pop() {
+        restore(entries, name, put);
+    }
+}
+
+// Gives a row, for which there is room, a payload or none.
+fn restore(entries: &mut Entries, name: RowName, put: Option<Payload>)
+    requires { HasRoom entries.old.entries name }
+    ensures rows { rows_in entries.new.entries ≡ row_after (rows_in entries.old.entries) name put }
     ensures kept { (q : RowName) → HasRoom entries.old.entries q → HasRoom entries.new.entries q }
 {
-    let name = change.name();
-    let before: Result<_, _> = entries.insert(name, change.put);
-    let _ = before.unwrap();
+    let replaced: Result<_, _> = entries.insert(name, put);
+    let _ = replaced.unwrap();
 }
 
 // Drops the room of names that these changes deleted. The others have a row, so that they need not be looked up again.

@@ -3,6 +3,7 @@ ghost use Rattle.bus_types.specs.declared.limits.TheConstants.{MAX_PAYLOAD};
 
 use crate::fault::NoMemory;
 use crate::limits::MAX_PAYLOAD;
+use smallvec::SmallVec;
 use std::alloc::Global;
 use std::marker::Model;
 
@@ -15,10 +16,14 @@ pub enum PayloadFault {
     NoMemory,
 }
 
-/// The bytes of a row, at most [`MAX_PAYLOAD`] of them. Contracts see the list of the bytes.
+/// How many bytes lie in a payload itself, without an allocation.
+const INLINE: usize = 24;
+
+/// The bytes of a row, at most [`MAX_PAYLOAD`] of them. Up to 24 lie in the payload itself, so that a short one takes no
+/// memory of its own. Contracts see the list of the bytes.
 #[derive(Debug, Drop)]
 pub struct Payload {
-    bytes: Vec<u8>,
+    bytes: SmallVec<u8, INLINE>,
 }
 
 impl Model for Payload {
@@ -41,13 +46,13 @@ impl Payload {
         if bytes.len() > MAX_PAYLOAD {
             return Err(PayloadFault::TooLong);
         }
-        let Ok(bytes) = Vec::from_slice(alloc, bytes) else {
+        let Ok(bytes) = SmallVec::from_slice(alloc, bytes) else {
             return Err(PayloadFault::NoMemory);
         };
         Ok(Payload { bytes })
     }
 
-    /// A payload that keeps this vector. `None` comes exactly above [`MAX_PAYLOAD`] bytes.
+    /// A payload of the bytes of this vector, which a long one keeps. `None` comes exactly above [`MAX_PAYLOAD`] bytes.
     pub fn from_vec(bytes: Vec<u8>) -> Option<Payload>
         ensures short { IsSome result ↔ (length bytes.items ≤ MAX_PAYLOAD) }
         ensures value { IfSome result (λ payload. payload ≡ bytes.items) }
@@ -55,7 +60,9 @@ impl Payload {
         if bytes.len() > MAX_PAYLOAD {
             return None;
         }
-        Some(Payload { bytes })
+        Some(Payload {
+            bytes: SmallVec::from_vec(bytes),
+        })
     }
 
     /// The bytes.
@@ -63,7 +70,7 @@ impl Payload {
         ensures value { result.now ≡ self.now }
         ensures short { length self.now ≤ MAX_PAYLOAD }
     {
-        &self.bytes
+        self.bytes.as_slice()
     }
 
     /// An equal payload.
@@ -71,7 +78,7 @@ impl Payload {
         ensures { IfOk result (λ payload. payload ≡ self.now) }
     {
         Ok(Payload {
-            bytes: Vec::from_slice(alloc, &self.bytes)?,
+            bytes: SmallVec::from_slice(alloc, self.bytes.as_slice())?,
         })
     }
 }

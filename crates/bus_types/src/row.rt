@@ -4,8 +4,12 @@ ghost use Rattle.bus_types.specs.Rows.{pair_of};
 use crate::change::Key;
 use crate::fault::NoMemory;
 use crate::payload::Payload;
+use smallvec::SmallVec;
 use std::alloc::Global;
 use std::marker::Model;
+
+/// How many bytes lie in a mark's text itself, without an allocation.
+const INLINE: usize = 48;
 
 /// A row of a table.
 #[derive(Debug, Drop)]
@@ -74,7 +78,7 @@ impl Rows {
 /// The text of a checkpoint, as a keeper stores it. Contracts see the list of its bytes.
 #[derive(Debug, Drop)]
 pub struct MarkText {
-    bytes: Vec<u8>,
+    bytes: SmallVec<u8, INLINE>,
 }
 
 impl Model for MarkText {
@@ -91,7 +95,7 @@ impl MarkText {
         ensures { IfOk result (λ mark. mark ≡ bytes.now) }
     {
         Ok(MarkText {
-            bytes: Vec::from_slice(alloc, bytes)?,
+            bytes: SmallVec::from_slice(alloc, bytes)?,
         })
     }
 
@@ -99,6 +103,6 @@ impl MarkText {
     pub fn bytes(&self) -> &[u8]
         ensures { result.now ≡ self.now }
     {
-        &self.bytes
+        self.bytes.as_slice()
     }
 }

@@ -22,8 +22,8 @@ use std::alloc::Global;
 ///
 /// It reads each of these windows once, and one more where `target` is no window's SCN. It holds one window and at most one
 /// change of each row that can still stand in the chunk, which are the first `(max - 10) / 23 + 1` behind the cursor, since a
-/// change takes 23 bytes and more: later rows are passed over, or dropped as earlier ones come, and their payloads aren't
-/// copied. The time of a change goes with the logarithm of the number of these rows.
+/// change takes 23 bytes and more: later rows are passed over, or dropped as earlier ones come. Payloads are moved out of the
+/// windows, and copied into the reply alone. The time of a change goes with the logarithm of the number of these rows.
 ///
 /// `LogFailed` comes only where the log's count of faults rose, and `StoreFailed` and `Halted` never. After a fault the reply is
 /// as before, and the log's windows always are.

@@ -10,7 +10,8 @@ use partition_filter::Filter;
 use std::alloc::Global;
 
 /// The last changes of the rows that a log's windows with since < SCN <= target change: those that the filter accepts, of the
-/// first `most` rows behind the cursor. It reads one window after the other and holds one at a time.
+/// first `most` rows behind the cursor. It reads one window after the other and holds one at a time, and
+/// moves payloads out of it.
 pub(crate) fn gather<G: WindowLog>(
     alloc: Global,
     log: &mut G,
@@ -33,7 +34,7 @@ pub(crate) fn gather<G: WindowLog>(
             return Ok(latest);
         };
         at = window.scn();
-        take_changes(alloc, window.changes(), filter, cursor, most, &mut latest)?;
+        take_changes(window.into_changes(), filter, cursor, most, &mut latest)?;
     }
     Ok(latest)
 }

@@ -1,4 +1,4 @@
-ghost use Rattle.std.specs.Prelude.{◌≡◌, ◌≤◌, ℕ, true, List, Option, length, IfOk, OnOk};
+ghost use Rattle.std.specs.Prelude.{◌≡◌, ◌≤◌, ℕ, true, List, Option, length, OnOk};
 ghost use Rattle.std.specs.Ordering.{is_lt};
 ghost use Rattle.bus_types.specs.Change.{name_cmp};
 ghost use Rattle.bus_types.specs.Rows.{is_after};
@@ -7,43 +7,40 @@ ghost use Rattle.delta_consolidate.specs.Latest.{kept, kept_with, kept_after};
 
 use bus_types::{Accepts, Change, Cursor, NoMemory, Payload, RowName};
 use partition_filter::Filter;
-use std::alloc::Global;
 use std::collections::BTreeMap;
 
 /// Of each row that changed, in order of name, what its last change puts, or that it deletes the row.
 pub(crate) type Latest = BTreeMap<RowName, Option<Payload>>;
 
 /// Takes changes into the last changes so far, in order: those that the filter accepts, of rows behind the cursor. It
-/// keeps the first `most` rows and drops those behind them.
+/// keeps the first `most` rows and drops those behind them. No payload is copied.
 pub(crate) fn take_changes(
-    alloc: Global,
-    changes: &[Change],
+    changes: Vec<Change>,
     filter: &Filter,
     cursor: &Cursor,
     most: usize,
     latest: &mut Latest,
 ) -> Result<(), NoMemory>
     requires { length latest.old.entries ≤ most }
-    ensures ok { OnOk result (latest.new.entries ≡ kept_after (test_of filter.now) cursor.now most latest.old.entries changes.now) }
+    ensures ok { OnOk result (latest.new.entries ≡ kept_after (test_of filter.now) cursor.now most latest.old.entries changes.items) }
     ensures few { length latest.new.entries ≤ most }
 {
     for change in changes {
-        take_change(alloc, change, filter, cursor, most, latest)?;
+        take_change(change, filter, cursor, most, latest)?;
     }
     Ok(())
 }
 
 // Takes a change where the filter accepts it and its row stands behind the cursor.
 fn take_change(
-    alloc: Global,
-    change: &Change,
+    change: Change,
     filter: &Filter,
     cursor: &Cursor,
     most: usize,
     latest: &mut Latest,
 ) -> Result<(), NoMemory>
     requires { length latest.old.entries ≤ most }
-    ensures ok { OnOk result (latest.new.entries ≡ kept_with (test_of filter.now) cursor.now most latest.old.entries change.now) }
+    ensures ok { OnOk result (latest.new.entries ≡ kept_with (test_of filter.now) cursor.now most latest.old.entries change) }
     ensures few { length latest.new.entries ≤ most }
 {
     if !filter.accepts(change.source, &change.key) {
@@ -53,7 +50,7 @@ fn take_change(
     if !is_after(cursor, &name) {
         return Ok(());
     }
-    keep(alloc, name, &change.put, most, latest)
+    keep(name, change.put, most, latest)
 }
 
 // Whether a row stands behind a cursor.
@@ -75,20 +72,18 @@ fn is_before(name: &RowName, other: &RowName) -> bool
 
 // Keeps what a row's change puts, unless so many rows stand before it.
 fn keep(
-    alloc: Global,
     name: RowName,
-    put: &Option<Payload>,
+    put: Option<Payload>,
     most: usize,
     latest: &mut Latest,
 ) -> Result<(), NoMemory>
     requires { length latest.old.entries ≤ most }
-    ensures ok { OnOk result (latest.new.entries ≡ kept most latest.old.entries name put.now) }
+    ensures ok { OnOk result (latest.new.entries ≡ kept most latest.old.entries name put) }
     ensures few { length latest.new.entries ≤ most }
 {
     if is_beyond(latest, &name, most) {
         return Ok(());
     }
-    let put = copy_put(alloc, put)?;
     insert(name, put, most, latest)
 }
 
@@ -121,14 +116,5 @@ fn is_beyond(latest: &Latest, name: &RowName, most: usize) -> bool
     match latest.last_key_value() {
         None => false,
         Some((last, _)) => is_before(last, name),
-    }
-}
-
-fn copy_put(alloc: Global, put: &Option<Payload>) -> Result<Option<Payload>, NoMemory>
-    ensures { IfOk result (λ copy. copy ≡ put.now) }
-{
-    match put {
-        None => Ok(None),
-        Some(payload) => Ok(Some(payload.copy(alloc)?)),
     }
 }

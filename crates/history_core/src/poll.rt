@@ -29,6 +29,9 @@ use relay_core::{Buffer, relay_answer};
 use std::alloc::Global;
 use trace_script::Stage;
 
+// Room for the bytes of a reply of a few windows, so that a short one grows but once.
+const REPLY_ROOM: usize = 1_024;
+
 // The bytes of the relay's reply to who asks for windows.
 fn streamed<B: Buffer>(
     alloc: Global,
@@ -39,7 +42,7 @@ fn streamed<B: Buffer>(
 ) -> Result<Vec<u8>, NoMemory>
     ensures { IfOk result (λ reply. reply.items ≡ reply_bytes (answer_of (B.relay relay.now) scn (test_of filter.now) max)) }
 {
-    let mut reply = Vec::new(alloc);
+    let mut reply = Vec::with_capacity(alloc, REPLY_ROOM)?;
     relay_answer(alloc, relay, scn, filter, max, &mut reply)?;
     Ok(reply)
 }

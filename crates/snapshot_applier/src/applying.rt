@@ -51,7 +51,7 @@ pub fn apply<G: WindowLog, K: Keeper>(
         Err(LogFault::NoMemory) => return Err(BootFault::NoMemory),
         Err(LogFault::Failed | LogFault::Full) => return Err(BootFault::LogFailed),
     };
-    match apply_windows(alloc, keeper, mark, &windows) {
+    match apply_windows(alloc, keeper, mark, windows) {
         Ok(next) => Ok(next),
         Err(StoreFault::Failed) => Err(BootFault::StoreFailed),
         Err(StoreFault::NoMemory) => Err(BootFault::NoMemory),
@@ -63,16 +63,16 @@ fn apply_windows<K: Keeper>(
     alloc: Global,
     keeper: &mut K,
     mark: &BootMark,
-    windows: &[Window],
+    windows: Vec<Window>,
 ) -> Result<BootMark, StoreFault>
     requires mark { IsBootMark mark.now }
-    requires rising { (high : ℕ) × RiseBetween mark.now.applied high windows.now }
-    ensures takes { Takes (commit_of mark.now windows.now) (K.state keeper.old) (K.state keeper.new) result }
-    ensures next { IfOk result (λ next. next ≡ applied_after mark.now windows.now) }
-    ensures advances { IfOk result (λ next. (high : ℕ) → mark.now.applied ≤ high → RiseBetween mark.now.applied high windows.now
+    requires rising { (high : ℕ) × RiseBetween mark.now.applied high windows.items }
+    ensures takes { Takes (commit_of mark.now windows.items) (K.state keeper.old) (K.state keeper.new) result }
+    ensures next { IfOk result (λ next. next ≡ applied_after mark.now windows.items) }
+    ensures advances { IfOk result (λ next. (high : ℕ) → mark.now.applied ≤ high → RiseBetween mark.now.applied high windows.items
         → Advances mark.now next high) }
 {
-    let next = mark_after(mark, windows);
+    let next = mark_after(mark, &windows);
     if !windows.is_empty() {
         commit(alloc, keeper, windows, &next)?;
     }
@@ -100,11 +100,11 @@ fn mark_after(mark: &BootMark, windows: &[Window]) -> BootMark
 fn commit<K: Keeper>(
     alloc: Global,
     keeper: &mut K,
-    windows: &[Window],
+    windows: Vec<Window>,
     mark: &BootMark,
 ) -> Result<(), StoreFault>
     requires { IsBootMark mark.now }
-    ensures { Takes (Some (move_of false (flat_map (λ w. w.changes) windows.now) (boot_mark_text mark.now))) (K.state keeper.old)
+    ensures { Takes (Some (move_of false (flat_map (λ w. w.changes) windows.items) (boot_mark_text mark.now))) (K.state keeper.old)
         (K.state keeper.new) result }
 {
     let text = boot_text(alloc, mark)?;
@@ -112,27 +112,23 @@ fn commit<K: Keeper>(
     keeper.commit(alloc, false, &batch, &text)
 }
 
-// The changes of windows, in order.
-fn changes_of(alloc: Global, windows: &[Window]) -> Result<Vec<Change>, NoMemory>
-    ensures { IfOk result (λ changes. changes.items ≡ flat_map (λ w. w.changes) windows.now) }
+// The changes of windows, in order. No payload is copied.
+fn changes_of(alloc: Global, windows: Vec<Window>) -> Result<Vec<Change>, NoMemory>
+    ensures { IfOk result (λ changes. changes.items ≡ flat_map (λ w. w.changes) windows.items) }
 {
     let mut changes = Vec::new(alloc);
     for window in windows {
-        append_changes(alloc, window.changes(), &mut changes)?;
+        append_changes(window.into_changes(), &mut changes)?;
     }
     Ok(changes)
 }
 
-// Appends copies of changes.
-fn append_changes(
-    alloc: Global,
-    changes: &[Change],
-    batch: &mut Vec<Change>,
-) -> Result<(), NoMemory>
-    ensures { IfOk result (λ done. batch.new.items ≡ batch.old.items ++ changes.now) }
+// Appends changes.
+fn append_changes(changes: Vec<Change>, batch: &mut Vec<Change>) -> Result<(), NoMemory>
+    ensures { IfOk result (λ done. batch.new.items ≡ batch.old.items ++ changes.items) }
 {
     for change in changes {
-        batch.push(change.copy(alloc)?)?;
+        batch.push(change)?;
     }
     Ok(())
 }

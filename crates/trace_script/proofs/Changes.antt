@@ -1,12 +1,12 @@
 -- Changes read word by word.
-use Rattle.std.proofs.Common.{◌≡◌, ℕ, ◌+◌, ◌<◌, ◌≤◌, List, [], ◌∷◌, ◌++◌, length, get_or, drop, Option, Some, None, option_map, refl, sym, ◌∙◌, append_assoc}
-use Rattle.std.proofs.lemmas.List.{drop_more, drop_all, append-nil}
+use Rattle.std.proofs.Common.{◌≡◌, ℕ, List, [], ◌∷◌, ◌++◌, Option, Some, None, option_map, refl, sym, ap, ◌∙◌, append_assoc}
 use Rattle.bus_types.specs.declared.change.Change.{Change}
+use Rattle.bus_types.specs.Text.{◌>>=◌, cut_at}
 use Rattle.trace_script.specs.declared.fault.LineFault.{LineFault}
 use Rattle.trace_script.specs.declared.fault.LineFault.TheVariants.{BadLine, NoMemory}
 use Rattle.trace_script.specs.Reading.{Refuses}
-use Rattle.bus_types.specs.Text.{◌>>=◌}
-use Rattle.trace_script.specs.Words.{change_of, changes_of}
+use Rattle.trace_script.specs.Words.{words_of, change_of, changes_of}
+use Rattle.trace_script.proofs.WordCuts.{words_cut, words_uncut}
 
 -- what was read, before what is still to read
 abbrev pub with_front : List Change → Option (List Change) → Option (List Change)
@@ -21,27 +21,37 @@ with_front-cons : (front : List Change) (c : Change) (read : Option (List Change
 with_front-cons front c None = refl
 with_front-cons front c (Some changes) = rw append_assoc refl
 
-pub with_front-more : (front pushed : List Change) (c : Change) (words : List (List ℕ)) (i : ℕ) (word : List ℕ) (total : Option (List Change))
-    → i < length words → get_or words i [] ≡ word → change_of word ≡ Some c → pushed ≡ front ++ c ∷ []
-    → with_front front (changes_of (drop i words)) ≡ total → with_front pushed (changes_of (drop (i + 1) words)) ≡ total
+-- a word more was read
+pub with_front-more : (front pushed : List Change) (c : Change) (rest word behind : List ℕ) (total : Option (List Change))
+    → cut_at 32 rest ≡ Some (word, behind) → change_of word ≡ Some c → pushed ≡ front ++ c ∷ []
+    → with_front front (changes_of (words_of rest)) ≡ total → with_front pushed (changes_of (words_of behind)) ≡ total
 unfolding changes_of
-with_front-more front pushed c words i word total lt at read push so_far =
-    let one : with_front front (changes_of (drop i words)) ≡ with_front front (changes_of (drop (i + 1) words) >>= λ changes. Some (c ∷ changes)) =
-    rw (drop_more words i [] lt, at, read) refl in
-    rw push (with_front-cons front c (changes_of (drop (i + 1) words)) ∙ sym one ∙ so_far)
+with_front-more front pushed c rest word behind total cut read push so_far =
+    let one : with_front front (changes_of (words_of rest)) ≡ with_front front (changes_of (words_of behind) >>= λ changes. Some (c ∷ changes)) =
+    ap (λ words. with_front front (changes_of words)) (words_cut rest word behind cut) ∙ rw read refl in
+    rw push (with_front-cons front c (changes_of (words_of behind)) ∙ sym one ∙ so_far)
 
-pub with_front-bad : (fault : LineFault) (front : List Change) (words : List (List ℕ)) (i : ℕ) (word : List ℕ) (total : Option (List Change))
-    → i < length words → get_or words i [] ≡ word → Refuses fault (change_of word)
-    → with_front front (changes_of (drop i words)) ≡ total → Refuses fault total
+-- a word is no change
+pub with_front-bad : (fault : LineFault) (front : List Change) (rest word behind : List ℕ) (total : Option (List Change))
+    → cut_at 32 rest ≡ Some (word, behind) → Refuses fault (change_of word)
+    → with_front front (changes_of (words_of rest)) ≡ total → Refuses fault total
 unfolding changes_of
-with_front-bad NoMemory front words i word total lt at bad so_far = tt
-with_front-bad BadLine front words i word total lt at bad so_far =
-    let one : with_front front (changes_of (drop i words)) ≡ None = rw (drop_more words i [] lt, at, bad) refl in
+with_front-bad NoMemory front rest word behind total cut bad so_far = tt
+with_front-bad BadLine front rest word behind total cut bad so_far =
+    let one : with_front front (changes_of (words_of rest)) ≡ None = ap (λ words. with_front front (changes_of words)) (words_cut rest word behind cut) ∙ rw bad refl in
     sym so_far ∙ one
 
-pub with_front-all : (front : List Change) (words : List (List ℕ)) (i : ℕ) (total : Option (List Change)) → length words ≤ i
-    → with_front front (changes_of (drop i words)) ≡ total → total ≡ Some front
+-- the last word was read
+pub with_front-all : (front pushed : List Change) (c : Change) (rest : List ℕ) (total : Option (List Change)) → cut_at 32 rest ≡ None → change_of rest ≡ Some c → pushed ≡ front ++ c ∷ []
+    → with_front front (changes_of (words_of rest)) ≡ total → total ≡ Some pushed
 unfolding changes_of
-with_front-all front words i total le so_far =
-    let one : with_front front (changes_of (drop i words)) ≡ Some front = rw (drop_all i words le, append-nil) refl in
-    sym so_far ∙ one
+with_front-all front pushed c rest total none read push so_far =
+    sym so_far ∙ ap (λ words. with_front front (changes_of words)) (words_uncut rest none) ∙ rw (read, push) refl
+
+-- the last word is no change
+pub with_front-last : (fault : LineFault) (front : List Change) (rest : List ℕ) (total : Option (List Change)) → cut_at 32 rest ≡ None → Refuses fault (change_of rest)
+    → with_front front (changes_of (words_of rest)) ≡ total → Refuses fault total
+unfolding changes_of
+with_front-last NoMemory front rest total none bad so_far = tt
+with_front-last BadLine front rest total none bad so_far =
+    sym so_far ∙ ap (λ words. with_front front (changes_of words)) (words_uncut rest none) ∙ rw bad refl

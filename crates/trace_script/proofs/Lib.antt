@@ -1,5 +1,6 @@
 pub mod ByteSearch
 pub mod Changes
+pub mod DigitPairs
 pub mod HexText
 pub mod ChangeTexts
 pub mod WordTexts
@@ -8,3 +9,4 @@ pub mod LineTexts
 pub mod LineLaws
 pub mod WrittenTexts
 pub mod CutLines
+pub mod WordCuts

@@ -3,6 +3,7 @@ use Rattle.std.specs.Prelude.{ℕ, Bool, true, false, if◌then◌else◌, ◌==
 use Rattle.std.specs.List.{list_any}
 use Rattle.trace_script.specs.declared.line.Line.{Line}
 use Rattle.trace_script.specs.declared.line.Line.TheVariants.{Blank, Relay, Consumer, Commit, Feed, Poll, Show, Crash, Stop, Stream, Log, Apply, Trim, RestartBoot}
+use Rattle.bus_types.specs.declared.change.Change.{Change}
 use Rattle.bus_types.specs.declared.limits.TheConstants.{MAX_SCN}
 use Rattle.bus_types.specs.Text.{◌>>=◌, number_of, max_u64}
 use Rattle.trace_script.specs.Words.{words_of, number_in, name_of, selection_of, changes_of}
@@ -27,12 +28,16 @@ consumer_of [] = None
 consumer_of (name ∷ []) = None
 consumer_of (name ∷ filter ∷ more ∷ words) = None
 
+-- a commit, of what was read of its SCN and its changes
+abbrev pub commit_by : Option ℕ → Option (List Change) → Option Line
+commit_by scn changes = do
+  number ← scn
+  made ← changes
+  Some (Commit number made)
+
 -- `commit SCN CHANGE ..`, with at least one change
 unfoldable pub commit_of : List (List ℕ) → Option Line
-commit_of (scn ∷ change ∷ words) = do
-  number ← number_of max_u64 scn
-  changes ← changes_of (change ∷ words)
-  Some (Commit number changes)
+commit_of (scn ∷ change ∷ words) = commit_by (number_of max_u64 scn) (changes_of (change ∷ words))
 commit_of [] = None
 commit_of (scn ∷ []) = None
 

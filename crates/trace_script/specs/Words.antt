@@ -1,5 +1,5 @@
 -- The words of a line: numbers, names, filters, changes.
-use Rattle.std.specs.Prelude.{ℕ, Bool, not, if◌then◌else◌, ◌==◌, ◌||◌, ◌&&◌, nat_le, List, [], ◌∷◌, length, Option, Some, None, option_map}
+use Rattle.std.specs.Prelude.{◌≡◌, ℕ, Bool, false, not, codes, bytes_eq, if◌then◌else◌, ◌==◌, ◌||◌, ◌&&◌, nat_le, List, [], ◌∷◌, length, Option, Some, None, option_map}
 use Rattle.std.specs.Result.{result_ok}
 use Rattle.std.specs.List.{list_all, list_any, slice_split}
 use Rattle.hex.specs.Hex.{decode_of}
@@ -14,6 +14,12 @@ use Rattle.partition_filter.specs.Grammar.{filter_of}
 -- the parts between spaces; two spaces in a row, or one at an end, leave an empty part, which is no word
 abbrev pub words_of : List ℕ → List (List ℕ)
 words_of bytes = slice_split (λ b. b == 32) bytes
+
+-- words that don't begin with `commit` and another one
+abbrev pub IsNoCommit : List (List ℕ) → Type 0
+IsNoCommit [] = Unit {0}
+IsNoCommit (word ∷ []) = Unit {0}
+IsNoCommit (word ∷ next ∷ words) = bytes_eq word (codes "commit") ≡ false
 
 -- the number that a word spells, where it is at least min and at most max
 unfoldable pub number_in : ℕ → ℕ → List ℕ → Option ℕ

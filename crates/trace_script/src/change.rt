@@ -1,24 +1,27 @@
-ghost use Rattle.std.specs.Prelude.{◌≡◌, ℕ, List, Some, None, map, if◌then◌else◌};
+ghost use Rattle.std.specs.Prelude.{◌≡◌, ℕ, List, Some, None, if◌then◌else◌};
 ghost use Rattle.std.specs.Result.{result_ok};
 ghost use Rattle.std.specs.List.{list_all};
 ghost use Rattle.hex.specs.Hex.{decode_of};
 ghost use Rattle.trace_script.specs.Reading.{Reads};
 ghost use Rattle.bus_types.specs.Text.{number_of};
-ghost use Rattle.trace_script.specs.Words.{is_lower_hex, key_of, payload_of, put_or_delete, change_of, changes_of};
+ghost use Rattle.trace_script.specs.Words.{words_of, is_lower_hex, key_of, payload_of, put_or_delete, change_of, changes_of};
 
+use crate::digits::decode;
 use crate::fault::LineFault;
 use bus_types::{Change, Key, Payload, cut_text, read_number};
-use hex::FromHexError;
 use std::alloc::Global;
 
-/// The changes that the words spell, in order.
-pub(crate) fn changes(alloc: Global, words: &[&[u8]]) -> Result<Vec<Change>, LineFault>
-    ensures { Reads (λ changes. changes.items) result (changes_of (map (λ word. word.now) words.now)) }
+/// The changes that the words of a text spell, in order.
+pub(crate) fn changes(alloc: Global, words: &[u8]) -> Result<Vec<Change>, LineFault>
+    ensures { Reads (λ changes. changes.items) result (changes_of (words_of words.now)) }
 {
     let mut changes = Vec::new(alloc);
-    for word in words {
+    let mut rest = words;
+    'words: while let Some((word, behind)) = cut_text(b' ', rest) {
         changes.push(change(alloc, word)?)?;
+        rest = behind;
     }
+    changes.push(change(alloc, rest)?)?;
     Ok(changes)
 }
 
@@ -92,14 +95,10 @@ fn payload(alloc: Global, digits: &[u8]) -> Result<Payload, LineFault>
 fn hex_bytes(alloc: Global, digits: &[u8]) -> Result<Vec<u8>, LineFault>
     ensures { Reads (λ bytes. bytes.items) result (if list_all is_lower_hex digits.now then result_ok (decode_of digits.now) else None) }
 {
-    if !all_lower_hex(digits) {
+    if digits.len() % 2 != 0 || !all_lower_hex(digits) {
         return Err(LineFault::BadLine);
     }
-    match hex::decode(alloc, digits) {
-        Ok(bytes) => Ok(bytes),
-        Err(FromHexError::OutOfMemory) => Err(LineFault::NoMemory),
-        Err(_) => Err(LineFault::BadLine),
-    }
+    Ok(decode(alloc, digits)?)
 }
 
 fn all_lower_hex(digits: &[u8]) -> bool

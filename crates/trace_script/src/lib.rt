@@ -6,6 +6,7 @@
 
 mod change;
 mod cutting;
+mod digits;
 mod fault;
 mod laws;
 mod line;

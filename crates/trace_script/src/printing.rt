@@ -4,6 +4,10 @@ ghost use Rattle.trace_script.specs.Printed.{line_with, relay_line, gap_line, bo
 use bus_types::NoMemory;
 use event_codec::{Answer, Shape};
 use std::alloc::Global;
+use std::fmt::Write;
+
+/// Room for the bytes of a line that is printed often, so that it grows but once.
+const LINE_ROOM: usize = 64;
 
 /// The stage that a consumer was at when it asked, as far as the line of the reply tells it.
 #[derive(Clone, Copy, Debug, PartialEq, Eq)]
@@ -37,7 +41,8 @@ pub enum Stage {
 pub fn relay_line(alloc: Global, floor: u64, end: u64) -> Result<String, NoMemory>
     ensures { IfOk result (λ text. string_bytes text ≡ relay_line floor end) }
 {
-    let text = format!(in alloc; "relay {floor} {end}\n")?;
+    let mut text = String::with_capacity(alloc, LINE_ROOM)?;
+    write!(text, "relay {floor} {end}\n").or(Err(NoMemory))?;
     Ok(text)
 }
 
@@ -103,7 +108,8 @@ fn windows_line(
 fn served_line(alloc: Global, count: u32, bytes: u64, last: u64) -> Result<String, NoMemory>
     ensures { IfOk result (λ text. string_bytes text ≡ served_line count bytes last) }
 {
-    let text = format!(in alloc; "served {count} {bytes} online {last}\n")?;
+    let mut text = String::with_capacity(alloc, LINE_ROOM)?;
+    write!(text, "served {count} {bytes} online {last}\n").or(Err(NoMemory))?;
     Ok(text)
 }
 

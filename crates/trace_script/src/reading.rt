@@ -1,16 +1,17 @@
-ghost use Rattle.std.specs.Prelude.{◌≡◌, ◌==◌, ◌≤◌, ◌∷◌, true, false, bytes_eq, codes, length, IfOk, IfSome, IsErrOf, map};
+ghost use Rattle.std.specs.Prelude.{◌≡◌, ◌==◌, ◌≤◌, ◌∷◌, true, false, bytes_eq, codes, length, IfOk, IfSome, IfNone, IsErrOf, map};
 ghost use Rattle.std.specs.List.{list_all, list_any};
+ghost use Rattle.bus_types.specs.Text.{number_of, max_u64};
 ghost use Rattle.trace_script.specs.Reading.{Reads};
 ghost use Rattle.trace_script.specs.declared.line.Line.{Line};
 ghost use Rattle.trace_script.specs.Spelling.{is_in_range, Spells};
-ghost use Rattle.trace_script.specs.Words.{is_line_byte, may_be_words, words_of, number_in, name_of, selection_of};
-ghost use Rattle.trace_script.specs.Lines.{is_blank, relay_of, consumer_of, commit_of, feed_of, poll_of, show_of, crash_of, when_of, stop_of, stream_of, log_of, apply_of, trim_of, restart_of, words_line, line_of};
+ghost use Rattle.trace_script.specs.Words.{IsNoCommit, is_line_byte, may_be_words, words_of, changes_of, number_in, name_of, selection_of};
+ghost use Rattle.trace_script.specs.Lines.{is_blank, relay_of, consumer_of, commit_by, commit_of, feed_of, poll_of, show_of, crash_of, when_of, stop_of, stream_of, log_of, apply_of, trim_of, restart_of, words_line, line_of};
 
 use crate::change::changes;
 use crate::fault::LineFault;
 use crate::line::{Line, MAX_COUNT, MAX_REPLY, MAX_ROOM, MAX_WINDOWS, MIN_ROOM};
 use crate::name::Name;
-use bus_types::{Changes, MAX_SCN, read_number};
+use bus_types::{Changes, MAX_SCN, cut_text, read_number};
 use memchr::memchr;
 use partition_filter::{Filter, FilterFault};
 use std::alloc::{AllocError, Global};
@@ -78,13 +79,44 @@ fn full_line(alloc: Global, text: &[u8]) -> Result<Line, LineFault>
     }
 }
 
-/// The line that a text, which isn't blank, spells in words. An empty word is refused before the words are gathered.
-#[tactic(auto, using(crate::proofs::LineTexts::line_of_return, crate::proofs::LineTexts::line_of_empty, crate::proofs::LineTexts::line_of_some))]
+/// The line that a text, which isn't blank, spells in words. The words of a commit, which may be many, aren't gathered.
+#[tactic(auto, using(crate::proofs::LineTexts::line_of_return, crate::proofs::WordCuts::line_of_commit))]
 fn line_in_words(alloc: Global, text: &[u8]) -> Result<Line, LineFault>
     requires { is_blank text.now ≡ false }
     ensures { Reads (λ line. line) result (line_of text.now) }
 {
-    if has_carriage_return(text) || has_empty_word(text) {
+    if has_carriage_return(text) {
+        return Err(LineFault::BadLine);
+    }
+    match commit_words(text) {
+        Some(words) => commit(alloc, words),
+        None => other_line(alloc, text),
+    }
+}
+
+/// The words behind the word `commit`, where a text begins with it and has more.
+#[tactic(auto, using(crate::proofs::WordCuts::words_cut, crate::proofs::WordCuts::words_uncut))]
+fn commit_words(text: &[u8]) -> Option<&[u8]>
+    ensures some { IfSome result (λ words. words_of text.now ≡ codes "commit" ∷ words_of words.now) }
+    ensures none { IfNone result (IsNoCommit (words_of text.now)) }
+{
+    let (word, words) = cut_text(b' ', text)?;
+    if word == b"commit".as_slice() {
+        Some(words)
+    } else {
+        None
+    }
+}
+
+/// The line that a text spells in words, where that is no commit. An empty word is refused before the words are gathered.
+#[tactic(auto, using(crate::proofs::LineTexts::line_of_empty, crate::proofs::LineTexts::line_of_some))]
+fn other_line(alloc: Global, text: &[u8]) -> Result<Line, LineFault>
+    requires full { is_blank text.now ≡ false }
+    requires no_return { list_any (λ b. b == 13) text.now ≡ false }
+    requires no_commit { IsNoCommit (words_of text.now) }
+    ensures { Reads (λ line. line) result (line_of text.now) }
+{
+    if has_empty_word(text) {
         return Err(LineFault::BadLine);
     }
     let words = words(alloc, text)?;
@@ -136,21 +168,30 @@ fn words(alloc: Global, text: &[u8]) -> Result<Vec<&[u8]>, AllocError>
     text.split(|b| *b == b' ').collect(alloc)
 }
 
-/// The line of these words, by the first one.
-#[tactic(auto, unfolding(crate::specs::Lines::words_line))]
+/// The line of these words, which are no commit, by the first one. No line is one word.
 fn words_line(alloc: Global, words: &[&[u8]]) -> Result<Line, LineFault>
+    requires { IsNoCommit (map (λ word. word.now) words.now) }
     ensures { Reads (λ line. line) result (words_line (map (λ word. word.now) words.now)) }
 {
+    if words.len() < 2 {
+        return Err(LineFault::BadLine);
+    }
     let [word, words @ ..] = words else {
         return Err(LineFault::BadLine);
     };
-    if *word == b"commit".as_slice() {
-        return commit(alloc, words);
-    }
-    if *word == b"consumer".as_slice() {
+    named_line(alloc, word, words)
+}
+
+/// The line of a word and those behind it, where that isn't `commit`.
+#[tactic(auto, unfolding(crate::specs::Lines::words_line))]
+fn named_line(alloc: Global, word: &[u8], words: &[&[u8]]) -> Result<Line, LineFault>
+    requires { bytes_eq word.now (codes "commit") ≡ false }
+    ensures { Reads (λ line. line) result (words_line (word.now ∷ map (λ word. word.now) words.now)) }
+{
+    if word == b"consumer".as_slice() {
         return consumer(alloc, words);
     }
-    if *word == b"stream".as_slice() {
+    if word == b"stream".as_slice() {
         return stream(alloc, words);
     }
     plain_line(word, words).ok_or(LineFault::BadLine)
@@ -190,16 +231,20 @@ fn plain_line(word: &[u8], words: &[&[u8]]) -> Option<Line>
 }
 
 /// `commit SCN CHANGE ..`
-#[tactic(auto, unfolding(crate::specs::Lines::commit_of))]
-fn commit(alloc: Global, words: &[&[u8]]) -> Result<Line, LineFault>
-    ensures { Reads (λ line. line) result (commit_of (map (λ word. word.now) words.now)) }
+#[tactic(auto, using(crate::proofs::WordCuts::commit_read, crate::proofs::WordCuts::commit_unread))]
+fn commit(alloc: Global, words: &[u8]) -> Result<Line, LineFault>
+    ensures { Reads (λ line. line) result (commit_of (words_of words.now)) }
 {
-    let [scn, words @ ..] = words else {
+    let Some((scn, changes)) = cut_text(b' ', words) else {
         return Err(LineFault::BadLine);
     };
-    if words.is_empty() {
-        return Err(LineFault::BadLine);
-    }
+    commit_line(alloc, scn, changes)
+}
+
+/// A commit at the SCN that a word spells, of the changes that the words of a text spell.
+fn commit_line(alloc: Global, scn: &[u8], words: &[u8]) -> Result<Line, LineFault>
+    ensures { Reads (λ line. line) result (commit_by (number_of max_u64 scn.now) (changes_of (words_of words.now))) }
+{
     let scn = read_number(scn, u64::MAX).ok_or(LineFault::BadLine)?;
     let changes = Changes::new(changes(alloc, words)?);
     Ok(Line::Commit { scn, changes })

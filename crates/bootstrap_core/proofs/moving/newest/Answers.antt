@@ -1,6 +1,6 @@
-use Rattle.std.proofs.Common.{Ok, subst}
+use Rattle.std.proofs.Common.{Ok, subst, arith}
 use Rattle.bootstrap_core.specs.Trimming.{ReadsUpto}
-use Rattle.bootstrap_core.proofs.NewestRead.{newest_none, newest_behind, newest_more, newest_done}
+use Rattle.bootstrap_core.proofs.NewestRead.{newest_none, newest_behind, newest_more, newest_done, newest_full}
 use Rattle.bootstrap_core.proofs.CrashBounds.{rest_drops, drops_read}
 use Rattle.bootstrap_core.proofs.moving.newest.Goals as goal
 
@@ -47,3 +47,6 @@ returns-in_err-scn-clause-crash g c most =
     drops_read (λ ws b. g.G.WindowLog.passes ws b c.args.log.now c.reads.log) (λ ws b. g.G.WindowLog.passes ws b c.reads.log c.next_upto.new.log) (λ ws b. g.G.WindowLog.passes ws b c.args.log.now c.next_upto.new.log)
     most (g.G.WindowLog.state c.args.log.now) (g.G.WindowLog.state c.reads.log) (λ ws b d w p. g.met.G.WindowLog.weakens ws ws b d c.reads.log c.next_upto.new.log w p) (λ ws b p q. g.met.G.WindowLog.passes_on ws b c.args.log.now c.reads.log c.next_upto.new.log p q)
     c.reads.invariant.so.unmoved.same (c.reads.invariant.crash most) c.next_upto.ensures.crash
+
+pub returns-clause-reads : goal.returns-clause-reads
+returns-clause-reads g c = newest_full c.args.base c.reads.found c.args.upto (g.G.WindowLog.state c.args.log.now) (g.G.WindowLog.state c.reads.log) (omega (arith, c.reads-test.false)) c.reads.invariant.so

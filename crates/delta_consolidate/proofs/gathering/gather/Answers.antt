@@ -21,7 +21,7 @@ windows-preserved g c =
     let now = g.G.WindowLog.state c.windows.log in
     let new = g.G.WindowLog.state c.next_upto.new.log in
     let next = subst (λ found. FindsNext c.windows.at c.args.target now found) c.in-Some.is c.in_ok-window.ensures.found in
-    let taken = c.in_ok-take_changes.ensures.ok ∙ ap (kept_after test c.args.cursor.now c.args.most c.windows.latest.entries) c.changes.ensures in
+    let taken = c.in_ok-take_changes.ensures.ok ∙ ap (kept_after test c.args.cursor.now c.args.most c.windows.latest.entries) c.into_changes.ensures in
     let more = more_walked test c.args.cursor.now c.args.most c.args.since c.windows.at c.args.target old now c.in-Some.window c.windows.latest.entries c.take_changes.new.latest.entries c.windows.invariant.unmoved.same next taken c.windows.invariant.walked in
     record {
       unmoved = unmoved_more old now new _ c.windows.invariant.unmoved c.next_upto.ensures.reads.counts c.next_upto.ensures.reads.same;

@@ -1,8 +1,10 @@
-use Rattle.std.proofs.Common.{◌≡◌, drop, map}
-use Rattle.trace_script.specs.Words.{changes_of}
+use Rattle.std.proofs.Common.{◌≡◌, length}
+use Rattle.trace_script.specs.Words.{words_of, changes_of}
 use Rattle.trace_script.proofs.Changes.{with_front}
 use Rattle.trace_script.proofs.change.changes.Given as goal
 
-abbrev pub invariant-loop-word : goal.invariant-loop-word
-invariant-loop-word l =
-    with_front l.changes.items (changes_of (drop l.word-index (map (λ word. word.now) l.words))) ≡ changes_of (map (λ word. word.now) l.words)
+abbrev pub invariant-words : goal.invariant-words
+invariant-words l = with_front l.changes.items (changes_of (words_of l.rest)) ≡ changes_of (words_of l.words)
+
+abbrev pub decreases-words : goal.decreases-words
+decreases-words l = length l.rest

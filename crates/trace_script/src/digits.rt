@@ -1,0 +1,31 @@
+ghost use Rattle.std.specs.Prelude.{◌≡◌, ◌<◌, ◌%◌, true, length, Some, IfOk, Ok};
+ghost use Rattle.std.specs.List.{list_all};
+ghost use Rattle.hex.specs.Hex.{decode_of, hex_digit_value};
+ghost use Rattle.trace_script.specs.Words.{is_lower_hex};
+
+use bus_types::NoMemory;
+use std::alloc::Global;
+
+/// The bytes that lower-case hex digits spell, two digits a byte.
+pub(crate) fn decode(alloc: Global, digits: &[u8]) -> Result<Vec<u8>, NoMemory>
+    requires lower { list_all is_lower_hex digits.now ≡ true }
+    requires even { length digits.now % 2 ≡ 0 }
+    ensures { IfOk result (λ bytes. decode_of digits.now ≡ Ok bytes.items) }
+{
+    let mut bytes = Vec::with_capacity(alloc, digits.len() / 2)?;
+    let mut rest = digits;
+    'pairs: while let [high, low, after @ ..] = rest {
+        bytes.push(value_of(*high) * 16 + value_of(*low))?;
+        rest = after;
+    }
+    Ok(bytes)
+}
+
+// The value of a lower-case hex digit. It has no branch, since digits follow no pattern that a processor could guess.
+fn value_of(digit: u8) -> u8
+    requires { is_lower_hex digit ≡ true }
+    ensures value { hex_digit_value digit ≡ Some result }
+    ensures small { result < 16 }
+{
+    digit % 16 + digit / 64 * 9
+}
