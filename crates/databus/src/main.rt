@@ -6,7 +6,7 @@
 use bus_io::{Reading, Writing};
 use bus_top::{Status, trace};
 use std::process::ExitCode;
-use std::{env, io};
+use std::{env, io, mem};
 
 fn main(rt: HostRuntime) -> ExitCode {
     let status = run(&rt);
@@ -25,7 +25,10 @@ fn run(rt: &HostRuntime) -> Status {
     let mut input = Reading::new(rt.stdin());
     let mut out = Writing::new(rt.stdout());
     let mut kept = None;
-    trace(rt.alloc(), &words, &mut input, &mut out, &mut kept)
+    let status = trace(rt.alloc(), &words, &mut input, &mut out, &mut kept);
+    // The program ends here, so what is kept isn't given back piece by piece.
+    mem::forget(kept);
+    status
 }
 
 // The words behind the program's name.
