@@ -12,7 +12,7 @@ use Rattle.partition_filter.specs.Selection.{Selection}
 use Rattle.partition_filter.specs.Selection.Selection.{All, Rules}
 use Rattle.partition_filter.specs.Spelling.{keys_text, rule_text, filter_text, IsRule, IsFilter}
 use Rattle.partition_filter.specs.Grammar.{filter_of}
-use Rattle.partition_filter.proofs.RuleTexts.{is_rule_byte, rule_bytes}
+use Rattle.partition_filter.proofs.RuleTexts.{is_rule_byte, rule_form}
 use Rattle.partition_filter.proofs.FilterTexts.{filter_taken, filter_again}
 use Rattle.trace_script.specs.Words.{is_word_byte, selection_of}
 use Rattle.trace_script.proofs.WordTexts.{IsWord, IsWord-append, IsWord-from_test}
@@ -36,7 +36,7 @@ rule_byte_in_word b h = grind (arith, nat_tests)
 
 words-rules : (rules : List Rule) → AllByRecursion IsRule rules → AllByRecursion IsWord (map rule_text rules)
 words-rules [] h = tt
-words-rules (r ∷ rs) h = (IsWord-from_test is_rule_byte rule_byte_in_word (rule_text r) (rule_bytes r h.0), words-rules rs h.1)
+words-rules (r ∷ rs) h = (IsWord-from_test is_rule_byte rule_byte_in_word (rule_text r) (rule_form.bytes r h.0), words-rules rs h.1)
 
 IsWord-joined : (byte : ℕ) (words : List (List ℕ)) → is_word_byte byte ≡ true → AllByRecursion IsWord words → IsWord (join_with_byte byte words)
 IsWord-joined byte [] fine h = refl
