@@ -1,12 +1,14 @@
 -- Forms of lists with one byte between two values.
-use Rattle.std.proofs.Common.{◌≡◌, ℕ, ◌≤◌, Bool, true, false, ◌==◌, ◌||◌, List, [], ◌∷◌, ◌++◌, length, map, Option, Some, None, option_map, refl, sym, ap, ◌∙◌, append_assoc, arith}
-use Rattle.std.specs.List.{list_all, AllByRecursion, slice_split, join_with_byte}
-use Rattle.std.proofs.lemmas.Bool.{eq-eqb, or_right}
+use Rattle.std.proofs.Common.{◌≡◌, ℕ, ◌+◌, ◌≤◌, Bool, true, false, ◌==◌, ◌||◌, nat_lt, inl, inr, List, [], ◌∷◌, ◌++◌, length, take, drop, map, Option, Some, None, option_map, refl, sym, ap, ◌∙◌, append_assoc, arith}
+use Rattle.std.specs.List.{list_all, AllByRecursion, slice_split, join_with_byte, position, position_or_len}
+use Rattle.std.proofs.lemmas.Bool.{eq-eqb, or_right, ltb-true, ltb-false}
 use Rattle.std.proofs.lemmas.List.{length-map}
-use Rattle.std.proofs.lemmas.List.Splits.{slice_split_none, slice_split_at, join_with_byte-slice_split, length-slice_split}
-use Rattle.bus_types.specs.Text.{◌>>=◌}
+use Rattle.std.proofs.lemmas.List.Elements.{All-from_get_or}
+use Rattle.std.proofs.lemmas.List.Splits.{slice_split_none, slice_split_first, slice_split_at, join_with_byte-slice_split, length-slice_split}
+use Rattle.std.proofs.lemmas.List.Sums.{fails_before_first}
+use Rattle.bus_types.specs.Text.{◌>>=◌, cut_at}
 use Rattle.bus_types.proofs.Cuts.{Lacks}
-use Rattle.bus_types.proofs.Options.{bind_some}
+use Rattle.bus_types.proofs.Options.{bind_some, map_some, chosen}
 use Rattle.text_forms.specs.Form.{Form}
 use Rattle.text_forms.specs.Lists.{each_of, listed_by, list_text}
 use Rattle.text_forms.proofs.Tests.{list_all-join}
@@ -29,6 +31,40 @@ split_taken byte spell text xs same =
     let parts = length-slice_split (λ b. b == byte) text in
     let count : length (slice_split (λ b. b == byte) text) ≡ length xs = rw (same, length-map) refl in
     (sym (join_with_byte-slice_split byte text) ∙ ap (join_with_byte byte) same, omega arith)
+
+-- ---- texts that are cut at such a byte
+
+pub map_none : {A B : Type 0} (o : Option A) (f : A → B) → option_map f o ≡ None → o ≡ None
+map_none None f h = refl
+map_none (Some x) f h = cc h
+
+-- a text that was cut at a byte is its first part and the parts behind it
+pub split_cut : (byte : ℕ) (text : List ℕ) (parts : List ℕ × List ℕ) → cut_at byte text ≡ Some parts → slice_split (λ b. b == byte) text ≡ parts.0 ∷ slice_split (λ b. b == byte) parts.1
+split_cut byte text parts h =
+    let p : ℕ → Bool = λ b. b == byte in
+    let first = position_or_len p text in
+    let found = map_some (position p text) (λ i. (take i text, drop (i + 1) text)) parts h in
+    elim (chosen (nat_lt first (length text)) (Some first) None (Some found.0) found.1) [
+      | inl within ↦
+          let same : first ≡ found.0 = cc (within.1) in
+          slice_split_first p text 0 (ltb-true first (length text) within.0)
+          ∙ ap (λ i. take i text ∷ slice_split p (drop (i + 1) text)) same
+          ∙ ap (λ (parts : List ℕ × List ℕ). parts.0 ∷ slice_split p parts.1) found.2
+      | inr past ↦ cc (past.1)
+    ]
+
+-- one without the byte is its only part
+pub split_uncut : (byte : ℕ) (text : List ℕ) → cut_at byte text ≡ None → slice_split (λ b. b == byte) text ≡ text ∷ []
+split_uncut byte text h =
+    let p : ℕ → Bool = λ b. b == byte in
+    let first = position_or_len p text in
+    let none = map_none (position p text) (λ i. (take i text, drop (i + 1) text)) h in
+    elim (chosen (nat_lt first (length text)) (Some first) None None none) [
+      | inl within ↦ cc (within.1)
+      | inr past ↦
+          let far = ltb-false first (length text) past.0 in
+          slice_split_none p text (All-from_get_or (λ b. p b ≡ false) text 0 (λ k lt. fails_before_first p text k 0 (omega (arith, far))))
+    ]
 
 -- ---- each text alone
 

@@ -47,14 +47,14 @@ printed-part (Fixed text) h = rw (escape-plain text h) refl
 
 printed-members : (later : Bool) (ms : List Member) → AreMembers ms → written.members_text later (members_data ms) ≡ members_text (comma_if later) ms
 printed-members later [] h = refl
-printed-members later (m ∷ ms) h = rw (escape-plain m.key h.0.0, printed-part m.part h.0.1, printed-members true ms h.1) refl
+printed-members later (m ∷ ms) h = rw (escape-plain m.0 h.0.0, printed-part m.1 h.0.1, printed-members true ms h.1) refl
 
 printed : (ms : List Member) → AreMembers ms → compact_text (object_data ms) ≡ object_text ms
 printed ms h = ap (λ (l : List ℕ). 123 ∷ l) (printed-members false ms h)
 
 no_float-members : (ms : List Member) → members_have_float (members_data ms) ≡ false
 no_float-members [] = refl
-no_float-members (m ∷ ms) = rw (part m.part, no_float-members ms) refl
+no_float-members (m ∷ ms) = rw (part m.1, no_float-members ms) refl
   where
     part : (p : Part) → has_float (part_data p) ≡ false
     part (Number n) = refl
@@ -69,7 +69,7 @@ printed_object ms d text h is says = says (ap has_float is ∙ no_float-members 
 
 numbers : (ms : List Member) → AreMembers ms → MembersHaveNumbers (members_outline (members_data ms))
 numbers [] h = tt
-numbers (m ∷ ms) h = (part m.part h.0.1, numbers ms h.1)
+numbers (m ∷ ms) h = (part m.1 h.0.1, numbers ms h.1)
   where
     part : (p : Part) → IsPart p → HasNumbers (outline (part_data p))
     part (Number n) h = IsNumber-decimal n h
@@ -78,7 +78,7 @@ numbers (m ∷ ms) h = (part m.part h.0.1, numbers ms h.1)
 
 shallow : (ms : List Member) → members_depth (members_outline (members_data ms)) ≡ 0
 shallow [] = refl
-shallow (m ∷ ms) = rw (part m.part, shallow ms) refl
+shallow (m ∷ ms) = rw (part m.1, shallow ms) refl
   where
     part : (p : Part) → depth (outline (part_data p)) ≡ 0
     part (Number n) = refl
@@ -87,7 +87,7 @@ shallow (m ∷ ms) = rw (part m.part, shallow ms) refl
 
 of_outline : (ms : List Member) (found : Members) → AreMembers ms → of_members (members_outline (members_data ms)) found ≡ Some (put_all ms found)
 of_outline [] found h = refl
-of_outline (m ∷ ms) found h = rw (part m.part h.0.1) (of_outline ms (put m.key (part_data m.part) found) h.1)
+of_outline (m ∷ ms) found h = rw (part m.1 h.0.1) (of_outline ms (put m.0 (part_data m.1) found) h.1)
   where
     part : (p : Part) → IsPart p → of_json (outline (part_data p)) ≡ Some (part_data p)
     part (Number n) h = rw (number_of-decimal n h) refl
@@ -118,9 +118,9 @@ utf8-part (Fixed text) h = utf8-quote text h
 utf8-members : (front : List ℕ) (ms : List Member) → are_ascii front ≡ true → AreMembers ms → IsUtf8 (members_text front ms)
 utf8-members front [] ascii h = IsUtf8-are_ascii (125 ∷ []) refl
 utf8-members front (m ∷ ms) ascii h =
-    let rest = IsUtf8-append (part_text m.part) (members_text (44 ∷ []) ms) (utf8-part m.part h.0.1) (utf8-members (44 ∷ []) ms refl h.1) in
-    let behind = IsUtf8-append (58 ∷ []) (part_text m.part ++ members_text (44 ∷ []) ms) (IsUtf8-are_ascii (58 ∷ []) refl) rest in
-    IsUtf8-append front _ (IsUtf8-are_ascii front ascii) (IsUtf8-append (quote m.key) _ (utf8-quote m.key h.0.0) behind)
+    let rest = IsUtf8-append (part_text m.1) (members_text (44 ∷ []) ms) (utf8-part m.1 h.0.1) (utf8-members (44 ∷ []) ms refl h.1) in
+    let behind = IsUtf8-append (58 ∷ []) (part_text m.1 ++ members_text (44 ∷ []) ms) (IsUtf8-are_ascii (58 ∷ []) refl) rest in
+    IsUtf8-append front _ (IsUtf8-are_ascii front ascii) (IsUtf8-append (quote m.0) _ (utf8-quote m.0 h.0.0) behind)
 
 utf8-object : (ms : List Member) → AreMembers ms → IsUtf8 (object_text ms)
 utf8-object ms h = IsUtf8-append (123 ∷ []) (members_text [] ms) (IsUtf8-are_ascii (123 ∷ []) refl) (utf8-members [] ms refl h)
@@ -134,7 +134,7 @@ part_size (Fixed text) = length text + 2
 
 abbrev pub members_size : ℕ → List Member → ℕ
 members_size front [] = 1
-members_size front (m ∷ ms) = front + (length m.key + 3) + part_size m.part + members_size 1 ms
+members_size front (m ∷ ms) = front + (length m.0 + 3) + part_size m.1 + members_size 1 ms
 
 length-quote : (text : List ℕ) → length (quote text) ≡ length text + 2
 length-quote text = omega (arith, length-append text (34 ∷ []))
@@ -147,14 +147,14 @@ length-part (Fixed text) = length-quote text
 length-members : (front : List ℕ) (ms : List Member) → length (members_text front ms) ≡ members_size (length front) ms
 length-members front [] = refl
 length-members front (m ∷ ms) =
-    let rest = part_text m.part ++ members_text (44 ∷ []) ms in
+    let rest = part_text m.1 ++ members_text (44 ∷ []) ms in
     omega (
       arith,
-      length-append front (quote m.key ++ 58 ∷ rest),
-      length-append (quote m.key) (58 ∷ rest),
-      length-append (part_text m.part) (members_text (44 ∷ []) ms),
-      length-quote m.key,
-      length-part m.part,
+      length-append front (quote m.0 ++ 58 ∷ rest),
+      length-append (quote m.0) (58 ∷ rest),
+      length-append (part_text m.1) (members_text (44 ∷ []) ms),
+      length-quote m.0,
+      length-part m.1,
       length-members (44 ∷ []) ms,
     )
 
@@ -171,7 +171,7 @@ step behind done literal (Fixed text) = behind done (literal ++ quote text)
 
 abbrev written_from : List ℕ → List ℕ → List ℕ → List Member → List ℕ
 written_from done literal front [] = done ++ (literal ++ 125 ∷ [])
-written_from done literal front (m ∷ ms) = step (λ d l. written_from d l (44 ∷ []) ms) done (literal ++ (front ++ (quote m.key ++ 58 ∷ []))) m.part
+written_from done literal front (m ∷ ms) = step (λ d l. written_from d l (44 ∷ []) ms) done (literal ++ (front ++ (quote m.0 ++ 58 ∷ []))) m.1
 
 -- grouped to the left, as a text with its literals is said
 abbrev pub in_pieces : List Member → List ℕ
@@ -198,8 +198,8 @@ step_is (Fixed text) behind rest is done literal = is done (literal ++ quote tex
 written_is : (ms : List Member) (done literal front : List ℕ) → written_from done literal front ms ≡ done ++ (literal ++ members_text front ms)
 written_is [] done literal front = refl
 written_is (m ∷ ms) done literal front =
-    step_is m.part (λ d l. written_from d l (44 ∷ []) ms) (members_text (44 ∷ []) ms) (λ d l. written_is ms d l (44 ∷ [])) done (literal ++ (front ++ (quote m.key ++ 58 ∷ [])))
-    ∙ key_behind done literal front (quote m.key) (part_text m.part ++ members_text (44 ∷ []) ms)
+    step_is m.1 (λ d l. written_from d l (44 ∷ []) ms) (members_text (44 ∷ []) ms) (λ d l. written_is ms d l (44 ∷ [])) done (literal ++ (front ++ (quote m.0 ++ 58 ∷ [])))
+    ∙ key_behind done literal front (quote m.0) (part_text m.1 ++ members_text (44 ∷ []) ms)
 
 pub in_pieces-is : (ms : List Member) → in_pieces ms ≡ object_text ms
 in_pieces-is ms = written_is ms [] (123 ∷ []) []

@@ -23,3 +23,15 @@ list_all-join test byte (text ∷ []) between h = h.0
 list_all-join test byte (text ∷ next ∷ texts) between h =
     list_all-both test text (byte ∷ join_with_byte byte (next ∷ texts)) h.0
     (and_from (test byte) (list_all test (join_with_byte byte (next ∷ texts))) between (list_all-join test byte (next ∷ texts) between h.1))
+
+-- ---- each element of a list
+
+-- a property that is weaker
+pub each_weaker : {X : Type 0} (P Q : X → Type 0) → ((x : X) → P x → Q x) → (xs : List X) → AllByRecursion P xs → AllByRecursion Q xs
+each_weaker P Q weaker [] h = tt
+each_weaker P Q weaker (x ∷ xs) h = (weaker x h.0, each_weaker P Q weaker xs h.1)
+
+-- two properties
+pub each_both : {X : Type 0} (P Q : X → Type 0) (xs : List X) → AllByRecursion P xs → AllByRecursion Q xs → AllByRecursion (λ x. P x × Q x) xs
+each_both P Q [] h k = tt
+each_both P Q (x ∷ xs) h k = ((h.0, k.0), each_both P Q xs h.1 k.1)

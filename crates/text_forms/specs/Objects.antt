@@ -11,9 +11,8 @@ pub data Part : Type 0 where
   Fixed : List ℕ → Part
 
 -- a key and what it names
-pub record Member : Type 0 where
-  pub key : List ℕ
-  pub part : Part
+abbrev pub Member : Type 0
+Member = List ℕ × Part
 
 -- ---- which there are
 
@@ -30,7 +29,7 @@ IsPart (Text text) = IsPlain text
 IsPart (Fixed text) = IsPlain text
 
 abbrev pub AreMembers : List Member → Type 0
-AreMembers members = AllByRecursion (λ (m : Member). IsPlain m.key × IsPart m.part) members
+AreMembers members = AllByRecursion (λ (m : Member). IsPlain m.0 × IsPart m.1) members
 
 -- ---- as a value
 
@@ -41,7 +40,7 @@ part_data (Fixed text) = string text
 
 abbrev pub members_data : List Member → Members
 members_data [] = no_members
-members_data (m ∷ ms) = member m.key (part_data m.part) (members_data ms)
+members_data (m ∷ ms) = member m.0 (part_data m.1) (members_data ms)
 
 abbrev pub object_data : List Member → Data
 object_data members = object (members_data members)
@@ -68,7 +67,7 @@ part_text (Fixed text) = quote text
 -- each member behind a front, which is a comma for those behind the first, and the last brace
 abbrev pub members_text : List ℕ → List Member → List ℕ
 members_text front [] = 125 ∷ []
-members_text front (m ∷ ms) = front ++ (quote m.key ++ 58 ∷ (part_text m.part ++ members_text (44 ∷ []) ms))
+members_text front (m ∷ ms) = front ++ (quote m.0 ++ 58 ∷ (part_text m.1 ++ members_text (44 ∷ []) ms))
 
 abbrev pub object_text : List Member → List ℕ
 object_text members = 123 ∷ members_text [] members
@@ -78,7 +77,7 @@ object_text members = 123 ∷ members_text [] members
 -- the members put into an object, one after another
 abbrev pub put_all : List Member → Members → Members
 put_all [] found = found
-put_all (m ∷ ms) found = put_all ms (put m.key (part_data m.part) found)
+put_all (m ∷ ms) found = put_all ms (put m.0 (part_data m.1) found)
 
 -- values whose texts are those of JSON objects, and which are found again in their objects
 pub record ObjectForm {X : Type 0} (Is : X → Type 0) (text : X → List ℕ) (members : X → List Member) (find : Data → Option X) : Type 0 where

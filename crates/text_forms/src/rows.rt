@@ -9,7 +9,7 @@ pub fn worked_texts()
     ensures listed { listed_by 44 (number_of 20) (codes "1,20") ≡ Some (1 ∷ 20 ∷ []) }
     ensures one_is_none { listed_by 44 (number_of 20) (codes "1,21") ≡ None }
     ensures empty { listed_by 44 (number_of 20) (codes "1,") ≡ None }
-    ensures object { object_text ((record { key = codes "at"; part = Number 7 }) ∷ (record { key = codes "mode"; part = Fixed (codes "on") }) ∷ (record { key = codes "place"; part = Text (codes "0/1") }) ∷ [])
+    ensures object { object_text ((codes "at", Number 7) ∷ (codes "mode", Fixed (codes "on")) ∷ (codes "place", Text (codes "0/1")) ∷ [])
         ≡ codes "{\"at\":7,\"mode\":\"on\",\"place\":\"0/1\"}" }
     ensures no_members { object_text [] ≡ codes "{}" }
 {}
