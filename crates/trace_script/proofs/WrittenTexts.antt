@@ -46,19 +46,7 @@ commit_text scn changes = ap (λ (l : List ℕ). codes "commit " ++ l) (join-spa
 
 pub spelled : (line : Line) → IsLine line → Spells (line_text line) line
 spelled Blank h = (refl, refl)
-spelled (Relay bytes windows) h = (h, refl)
-spelled (Consumer name filter) h = (h, refl)
-spelled (Commit scn changes) h = (h, refl)
-spelled (Feed count) h = (h, refl)
-spelled (Poll name max) h = (h, refl)
-spelled (Show name) h = (h, refl)
-spelled (Crash name) h = (h, refl)
-spelled (Stop name after) h = (h, refl)
-spelled (Stream scn filter max) h = (h, refl)
-spelled (Log count) h = (h, refl)
-spelled (Apply count) h = (h, refl)
-spelled (Trim scn) h = (h, refl)
-spelled RestartBoot h = (h, refl)
+spelled line h = (h, refl)
 
 pub read_back : (line : Line) → IsLine line → line_of (line_text line) ≡ Some line
 read_back line h = line_again (line_text line) line (spelled line h)
