@@ -1,12 +1,11 @@
 -- Listed numbers and their text.
-use Rattle.std.proofs.Common.{◌≡◌, ℕ, ◌+◌, ◌^◌, ◌<◌, Bool, ◌==◌, ◌||◌, ◌&&◌, nat_le, List, [], ◌∷◌, length, None, refl, arith}
-use Rattle.std.specs.Prelude.{decimal}
+use Rattle.std.proofs.Common.{◌≡◌, ℕ, ◌+◌, ◌^◌, ◌<◌, Bool, ◌==◌, ◌||◌, ◌&&◌, nat_le, List, [], ◌∷◌, length, None, refl}
 use Rattle.std.specs.List.{slice_split}
 use Rattle.std.proofs.lemmas.Bool.{and_parts, and_from, leb-true, le-leb}
 use Rattle.bus_types.specs.Text.{is_digit, number_of}
 use Rattle.text_forms.specs.Form.{Form}
 use Rattle.text_forms.specs.Lists.{each_of}
-use Rattle.text_forms.proofs.Combinators.{number_form, where_form, same_form, read_form}
+use Rattle.text_forms.proofs.Combinators.{where_form, same_form, below_form, read_form}
 use Rattle.text_forms.proofs.ListForms.{list_form}
 use Rattle.partition_filter.specs.Grammar.{numbers_of, listed_of}
 use Rattle.partition_filter.specs.Rising.{rises}
@@ -17,10 +16,6 @@ numbers_are : (max : ℕ) (texts : List (List ℕ)) → numbers_of max texts ≡
 unfolding numbers_of each_of
 numbers_are max [] = refl
 numbers_are max (text ∷ texts) = rw (numbers_are max texts) refl
-
--- a number below a limit
-below_form : (max limit : ℕ) → limit ≡ max + 1 → max < 2 ^ 64 → Form (λ n. n < limit) decimal (number_of max) is_digit
-below_form max limit above fits = same_form (λ n h. omega arith) (λ n h. omega arith) (number_form max fits)
 
 -- digits, and a comma between two
 abbrev pub is_listed_byte : ℕ → Bool

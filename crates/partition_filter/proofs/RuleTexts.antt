@@ -11,7 +11,7 @@ use Rattle.bus_types.proofs.Cuts.{Lacks, Lacks-from_test, cut_taken, cut_again, 
 use Rattle.bus_types.proofs.Options.{bind_some}
 use Rattle.text_forms.specs.Form.{Form}
 use Rattle.text_forms.proofs.Tests.{list_all-weaker, list_all-both}
-use Rattle.text_forms.proofs.Combinators.{number_form, where_form, same_form, form_lacks, parted, parted_again, parted_bytes}
+use Rattle.text_forms.proofs.Combinators.{number_form, where_form, same_form, below_form, form_lacks, both, parted_again, parted_bytes}
 use Rattle.partition_filter.specs.declared.rule.Keys.{Keys}
 use Rattle.partition_filter.specs.declared.rule.Keys.TheVariants.{Every, Remainder, Quotient}
 use Rattle.partition_filter.specs.declared.rule.Rule.{Rule}
@@ -22,7 +22,7 @@ use Rattle.partition_filter.proofs.ListedTexts.{is_listed_byte, listed_form}
 -- ---- numbers
 
 source_form : Form (λ n. n < 2 ^ 16) decimal (number_of 65535) is_digit
-source_form = same_form (λ n h. omega arith) (λ n h. omega arith) (number_form 65535 (lit< tt))
+source_form = below_form 65535 (2 ^ 16) refl (lit< tt)
 
 divisor_form : (max : ℕ) → max < 2 ^ 64 → Form (λ n. (1 ≤ n) × (n ≤ max)) decimal (divisor_of max) is_digit
 unfolding divisor_of
@@ -43,15 +43,17 @@ quotients_form by h = listed_form max_u64 (2 ^ 64) refl (lit< tt)
 remainder_taken : (text : List ℕ) (keys : Keys) → remainder_of text ≡ Some keys → (37 ∷ text ≡ keys_text keys) × IsKeys keys
 unfolding remainder_of
 remainder_taken text keys h =
-    let p = parted (divisor_form 65536 (lit< tt)) remainders_form Remainder 58 text keys h in
-    rw (← p.made) (ap (λ (l : List ℕ). 37 ∷ l) p.spelled, (p.first_is.0, p.first_is.1, p.second_is))
+    let parts = bind_some (cut_at 58 text) _ keys h in
+    let p = both (divisor_form 65536 (lit< tt)) remainders_form Remainder parts.0.0 parts.0.1 keys parts.2 in
+    rw (← p.made, ← p.first_text, ← p.second_text) (ap (λ (l : List ℕ). 37 ∷ l) (cut_taken 58 text parts.0 parts.1), (p.first_is.0, p.first_is.1, p.second_is))
 
 quotient_taken : (text : List ℕ) (keys : Keys) → quotient_of text ≡ Some keys → (47 ∷ text ≡ keys_text keys) × IsKeys keys
 unfolding quotient_of
 quotient_taken text keys h =
-    let p = parted (divisor_form max_u64 (lit< tt)) quotients_form Quotient 58 text keys h in
+    let parts = bind_some (cut_at 58 text) _ keys h in
+    let p = both (divisor_form max_u64 (lit< tt)) quotients_form Quotient parts.0.0 parts.0.1 keys parts.2 in
     let small = p.first_is.1 in
-    rw (← p.made) (ap (λ (l : List ℕ). 47 ∷ l) p.spelled, (p.first_is.0, omega arith, p.second_is))
+    rw (← p.made, ← p.first_text, ← p.second_text) (ap (λ (l : List ℕ). 47 ∷ l) (cut_taken 58 text parts.0 parts.1), (p.first_is.0, omega arith, p.second_is))
 
 every_taken : (text : List ℕ) (keys : Keys) → every_of text ≡ Some keys → (42 ∷ text ≡ keys_text keys) × IsKeys keys
 unfolding every_of

@@ -1,12 +1,12 @@
 -- Forms of numbers and of names, and forms that are made of others.
-use Rattle.std.proofs.Common.{◌≡◌, ℕ, ◌^◌, ◌<◌, ◌≤◌, Bool, true, false, cond, inl, inr, List, ◌∷◌, ◌++◌, Option, Some, None, refl, sym, ◌∙◌, arith}
+use Rattle.std.proofs.Common.{◌≡◌, ℕ, ◌+◌, ◌^◌, ◌<◌, ◌≤◌, Bool, true, false, cond, inl, inr, List, ◌∷◌, ◌++◌, Option, Some, None, refl, sym, ◌∙◌, arith}
 use Rattle.std.specs.Prelude.{decimal, bytes_eq}
 use Rattle.std.specs.List.{list_all}
 use Rattle.std.proofs.lemmas.Bool.{and_from}
 use Rattle.std.proofs.lemmas.Option.{cond_some}
 use Rattle.std.proofs.lemmas.Slice.Eq.{bytes_eq-Decides}
 use Rattle.bus_types.specs.Text.{◌>>=◌, cut_at, is_digit, number_of}
-use Rattle.bus_types.proofs.Cuts.{Lacks, Lacks-from_test, cut_taken, cut_again}
+use Rattle.bus_types.proofs.Cuts.{Lacks, Lacks-from_test, cut_again}
 use Rattle.bus_types.proofs.Numbers.{all_digits-decimal, number_taken, number_again}
 use Rattle.bus_types.proofs.Options.{bind_some, chosen}
 use Rattle.text_forms.specs.Form.{Form}
@@ -43,6 +43,10 @@ same_form there back form = record {
   again = λ x h. form.again x (back x h);
   bytes = λ x h. form.bytes x (back x h);
 }
+
+-- a number in decimal, below a limit
+pub below_form : (max limit : ℕ) → limit ≡ max + 1 → max < 2 ^ 64 → Form (λ n. n < limit) decimal (number_of max) is_digit
+below_form max limit above fits = same_form (λ n h. omega arith) (λ n h. omega arith) (number_form max fits)
 
 -- a form that is read in other words
 pub read_form : {X : Type 0} {Is : X → Type 0} {spell : X → List ℕ} {read other : List ℕ → Option X} {test : ℕ → Bool}
@@ -95,8 +99,8 @@ made {read = read} form make text c h =
     record { value = one.0; made = cc (one.2); is = spelled.0; spelled = spelled.1 }
 
 -- two values of two texts, of which the second may depend on the first
-pub record Both {A B C : Type 0} (IsA : A → Type 0) (IsB : A → B → Type 0) (spellA : A → List ℕ) (spellB : B → List ℕ) (make : A → B → C) (front behind : List ℕ) (c : C)
-    : Type 0 where
+pub record Both {A B C : Type 0} (IsA : A → Type 0) (IsB : A → B → Type 0) (spellA : A → List ℕ) (spellB : B → List ℕ) (make : A → B → C)
+    (front behind : List ℕ) (c : C) : Type 0 where
   pub first : A
   pub second : B
   pub made : make first second ≡ c
@@ -115,31 +119,7 @@ both {readA = readA} {readB = readB} formA formB make front behind c h =
     let second = (formB a.0 first.0).taken behind b.0 b.1 in
     record { first = a.0; second = b.0; made = cc (b.2); first_is = first.0; second_is = second.0; first_text = first.1; second_text = second.1 }
 
--- two values of a text with a byte between them
-pub record Parted {A B C : Type 0} (IsA : A → Type 0) (IsB : A → B → Type 0) (spellA : A → List ℕ) (spellB : B → List ℕ) (make : A → B → C) (byte : ℕ) (text : List ℕ) (c : C)
-    : Type 0 where
-  pub first : A
-  pub second : B
-  pub made : make first second ≡ c
-  pub first_is : IsA first
-  pub second_is : IsB first second
-  pub spelled : text ≡ spellA first ++ byte ∷ spellB second
-
-pub parted : {A B C : Type 0} {IsA : A → Type 0} {IsB : A → B → Type 0} {spellA : A → List ℕ} {spellB : B → List ℕ} {readA : List ℕ → Option A} {readB : A → List ℕ → Option B}
-    {testA testB : ℕ → Bool} → Form IsA spellA readA testA → ((a : A) → IsA a → Form (IsB a) spellB (readB a) testB) → (make : A → B → C) (byte : ℕ) (text : List ℕ) (c : C)
-    → (cut_at byte text >>= λ parts. readA parts.0 >>= λ a. readB a parts.1 >>= λ b. Some (make a b)) ≡ Some c → Parted IsA IsB spellA spellB make byte text c
-parted formA formB make byte text c h =
-    let parts = bind_some (cut_at byte text) _ c h in
-    let two = both formA formB make parts.0.0 parts.0.1 c parts.2 in
-    record {
-      first = two.first;
-      second = two.second;
-      made = two.made;
-      first_is = two.first_is;
-      second_is = two.second_is;
-      spelled = rw (← two.first_text, ← two.second_text) (cut_taken byte text parts.0 parts.1);
-    }
-
+-- two texts with a byte between them
 pub parted_again : {A B C : Type 0} {IsA : A → Type 0} {IsB : A → B → Type 0} {spellA : A → List ℕ} {spellB : B → List ℕ} {readA : List ℕ → Option A} {readB : A → List ℕ → Option B}
     {testA testB : ℕ → Bool} → Form IsA spellA readA testA → ((a : A) → IsA a → Form (IsB a) spellB (readB a) testB) → (make : A → B → C) (byte : ℕ) → testA byte ≡ false
     → (a : A) (b : B) → IsA a → IsB a b → (cut_at byte (spellA a ++ byte ∷ spellB b) >>= λ parts. readA parts.0 >>= λ x. readB x parts.1 >>= λ y. Some (make x y)) ≡ Some (make a b)

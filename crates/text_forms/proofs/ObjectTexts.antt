@@ -58,8 +58,7 @@ no_float-members (m ∷ ms) = rw (part m.1, no_float-members ms) refl
   where
     part : (p : Part) → has_float (part_data p) ≡ false
     part (Number n) = refl
-    part (Text text) = refl
-    part (Fixed text) = refl
+    part p = refl
 
 -- what a writer says of the text of a value without a float
 pub printed_object : (ms : List Member) (d : Data) (text : List ℕ) → AreMembers ms → d ≡ object_data ms → (has_float d ≡ false → text ≡ compact_text d) → text ≡ object_text ms
@@ -73,8 +72,7 @@ numbers (m ∷ ms) h = (part m.1 h.0.1, numbers ms h.1)
   where
     part : (p : Part) → IsPart p → HasNumbers (outline (part_data p))
     part (Number n) h = IsNumber-decimal n h
-    part (Text text) h = tt
-    part (Fixed text) h = tt
+    part p h = tt
 
 shallow : (ms : List Member) → members_depth (members_outline (members_data ms)) ≡ 0
 shallow [] = refl
@@ -82,8 +80,7 @@ shallow (m ∷ ms) = rw (part m.1, shallow ms) refl
   where
     part : (p : Part) → depth (outline (part_data p)) ≡ 0
     part (Number n) = refl
-    part (Text text) = refl
-    part (Fixed text) = refl
+    part p = refl
 
 of_outline : (ms : List Member) (found : Members) → AreMembers ms → of_members (members_outline (members_data ms)) found ≡ Some (put_all ms found)
 of_outline [] found h = refl
@@ -91,8 +88,7 @@ of_outline (m ∷ ms) found h = rw (part m.1 h.0.1) (of_outline ms (put m.0 (par
   where
     part : (p : Part) → IsPart p → of_json (outline (part_data p)) ≡ Some (part_data p)
     part (Number n) h = rw (number_of-decimal n h) refl
-    part (Text text) h = refl
-    part (Fixed text) h = refl
+    part p h = refl
 
 read-object_text : (ms : List Member) → AreMembers ms → put_all ms no_members ≡ members_data ms → read (object_text ms) ≡ Some (object_data ms)
 read-object_text ms h ordered =

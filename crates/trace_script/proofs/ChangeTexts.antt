@@ -20,7 +20,7 @@ use Rattle.bus_types.proofs.Cuts.{cut_taken, cut_again, cut_none}
 use Rattle.text_forms.specs.Form.{Form}
 use Rattle.text_forms.specs.Lists.{each_of}
 use Rattle.text_forms.proofs.Tests.{list_all-both, each_weaker, each_both}
-use Rattle.text_forms.proofs.Combinators.{number_form, same_form, wider_form, form_lacks, both}
+use Rattle.text_forms.proofs.Combinators.{number_form, below_form, wider_form, form_lacks, both}
 use Rattle.text_forms.proofs.ListForms.{all_texts, each_taken, each_again}
 use Rattle.trace_script.specs.Words.{is_word_byte, is_lower_hex, key_of, put_or_delete, change_of, changes_of}
 use Rattle.trace_script.specs.Spelling.{put_text, change_text, AreBytesOf}
@@ -102,7 +102,7 @@ row_again source key None fits short bytes =
 -- ---- changes
 
 source_form : Form (λ n. n < 2 ^ 16) decimal (number_of 65535) is_digit
-source_form = same_form (λ n h. omega arith) (λ n h. omega arith) (number_form 65535 (lit< tt))
+source_form = below_form 65535 (2 ^ 16) refl (lit< tt)
 
 -- a change whose put is of bytes
 abbrev IsSpelled : Change → Type 0
