@@ -155,20 +155,20 @@ fn take(bus: &mut Bus, alloc: Global, line: &[u8], text: &mut Vec<u8>) -> Result
     ensures { Prints result (text_step (state_of bus.old) line.now) bus.old bus.new text.old.items text.new.items }
 {
     match read_line(alloc, line) {
-        Ok(line) => print(bus, alloc, &line, text),
+        Ok(line) => print(bus, alloc, line, text),
         Err(LineFault::BadLine) => Err(StepFault::BadLine),
         Err(LineFault::NoMemory) => Err(StepFault::NoMemory),
     }
 }
 
 // What a line does. Where it is taken, its text is appended; else nothing is.
-fn print(bus: &mut Bus, alloc: Global, line: &Line, text: &mut Vec<u8>) -> Result<(), StepFault>
+fn print(bus: &mut Bus, alloc: Global, line: Line, text: &mut Vec<u8>) -> Result<(), StepFault>
     requires { IsSound bus.old }
-    ensures { Prints result (line_step (state_of bus.old) line.now) bus.old bus.new text.old.items text.new.items }
+    ensures { Prints result (line_step (state_of bus.old) line) bus.old bus.new text.old.items text.new.items }
 {
     let before = text.len();
     let mut out = GrowingSink::new(mem::replace(text, Vec::new(alloc)));
-    let took = bus.step(alloc, line, &mut out);
+    let took = bus.step_owned(alloc, line, &mut out);
     *text = out.into_bytes();
     match took {
         Ok(()) => Ok(()),

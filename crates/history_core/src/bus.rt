@@ -110,6 +110,28 @@ impl<B: Buffer + Drop> Bus<B> {
         Ok(())
     }
 
+    /// Takes a line that is given away, as [`Bus::step`] does one that is lent: the changes of a commit aren't copied.
+    pub fn step_owned<W: Sink>(
+        &mut self,
+        alloc: Global,
+        line: Line,
+        out: &mut W,
+    ) -> Result<(), StepFault>
+        requires { IsSound self.old }
+        ensures steps { Steps result (line_step (state_of self.old) line) self.old self.new (W.written out.old) (W.written out.new) }
+        ensures untouched { IsErrOf result StepFault.BadLine → out.new ≡ out.old }
+        ensures calls { OnOk result (Calls line self.old self.new) }
+        ensures later { W.faults out.old ≤ W.faults out.new }
+        ensures write_fault { OnWriteFault result (Rose (W.faults out.old) (W.faults out.new)) }
+    {
+        if !line.is_in_range() {
+            return Err(StepFault::BadLine);
+        }
+        let text = self.act_owned(alloc, line)?;
+        write_all(out, &text)?;
+        Ok(())
+    }
+
     /// The consumers' keepers, in order of declaration. It takes no memory.
     pub fn keepers(self) -> Vec<MemoryKeeper>
         ensures { result.items ≡ map (λ m. m.store) self.members }
@@ -135,6 +157,22 @@ impl<B: Buffer + Drop> Bus<B> {
         self.begin(done)
     }
 
+    // Takes a line whose numbers are in range and that is given away.
+    fn act_owned(&mut self, alloc: Global, line: Line) -> Result<Vec<u8>, StepFault>
+        requires sound { IsSound self.old }
+        requires range { is_in_range line ≡ true }
+        ensures does { Does result (act (state_of self.old) line) self.old self.new }
+        ensures calls { OnOk result (Calls line self.old self.new) }
+    {
+        match line {
+            Line::Commit { scn, changes } => {
+                let done = self.commit(alloc, scn, changes);
+                self.begin(done)
+            }
+            line => self.act(alloc, &line),
+        }
+    }
+
     // Takes a line that isn't blank, but for that it has come.
     fn take(&mut self, alloc: Global, line: &Line) -> Result<Vec<u8>, StepFault>
         requires sound { IsSound self.old }
@@ -146,7 +184,7 @@ impl<B: Buffer + Drop> Bus<B> {
             Line::Blank => Ok(Vec::new(alloc)),
             Line::Relay { bytes, windows } => self.set_room(alloc, *bytes, *windows),
             Line::Consumer { name, filter } => self.declare(alloc, *name, filter),
-            Line::Commit { scn, changes } => self.commit(alloc, *scn, changes),
+            Line::Commit { scn, changes } => self.commit_copy(alloc, *scn, changes),
             Line::Feed(count) => self.feed(alloc, *count),
             Line::Log(count) => self.log(alloc, *count),
             Line::Apply(count) => self.apply(alloc, *count),
@@ -211,12 +249,11 @@ impl<B: Buffer + Drop> Bus<B> {
 
     // The source commits a window.
     #[tactic(auto, unfolding(crate::specs::Steps::commit_step))]
-    fn commit(&mut self, alloc: Global, scn: u64, changes: &Changes) -> Result<Vec<u8>, StepFault>
+    fn commit(&mut self, alloc: Global, scn: u64, changes: Changes) -> Result<Vec<u8>, StepFault>
         requires { IsSound self.old }
-        ensures { Acts result (commit_step (state_of self.old) scn changes.now) self.old self.new }
+        ensures { Acts result (commit_step (state_of self.old) scn changes) self.old self.new }
     {
-        let changes = copy_changes(alloc, changes.items())?;
-        let Ok(window) = Window::new(scn, self.source.last(), changes) else {
+        let Ok(window) = Window::new(scn, self.source.last(), changes.into_vec()) else {
             return Err(StepFault::BadLine);
         };
         let _within = window.size();
@@ -225,6 +262,20 @@ impl<B: Buffer + Drop> Bus<B> {
         }
         self.source.append(alloc, window)?;
         Ok(Vec::new(alloc))
+    }
+
+    // The source commits a window with a copy of these changes.
+    fn commit_copy(
+        &mut self,
+        alloc: Global,
+        scn: u64,
+        changes: &Changes,
+    ) -> Result<Vec<u8>, StepFault>
+        requires { IsSound self.old }
+        ensures { Acts result (commit_step (state_of self.old) scn changes.now) self.old self.new }
+    {
+        let copy = Changes::new(copy_changes(alloc, changes.items())?);
+        self.commit(alloc, scn, copy)
     }
 
     // The relay publishes the next commits.

@@ -70,6 +70,11 @@ even_left rest h even =
     let size : length rest ≡ length (behind_two rest) + 2 = ap length (two rest h) ∙ omega arith in
     omega (arith, size, even)
 
+pub room_left : (rest : List ℕ) (before now : ℕ) → 2 ≤ length rest → now ≡ before + 1 → 2 * before + length rest ≤ 48 → 2 * now + length (behind_two rest) ≤ 48
+room_left rest before now h more room =
+    let size : length rest ≡ length (behind_two rest) + 2 = ap length (two rest h) ∙ omega arith in
+    omega (arith, size, more, room)
+
 pub reads_left : (digits done new rest : List ℕ) (h l : ℕ) → 2 ≤ length rest → new ≡ done ++ (h * 16 + l) ∷ [] → hex_digit_value (get_or rest 0 0) ≡ Some h → hex_digit_value (get_or rest 1 0) ≡ Some l → ReadsOn digits done rest
     → ReadsOn digits new (behind_two rest)
 reads_left digits done new rest h l long made high low before = reads_on digits done new rest (behind_two rest) (get_or rest 0 0) (get_or rest 1 0) h l (two rest long) made high low before

@@ -1,14 +1,15 @@
-ghost use Rattle.std.specs.Prelude.{◌≡◌, ℕ, List, Some, None, if◌then◌else◌};
+ghost use Rattle.std.specs.Prelude.{◌≡◌, ◌≤◌, ℕ, List, length, Some, None, if◌then◌else◌};
 ghost use Rattle.std.specs.Result.{result_ok};
 ghost use Rattle.std.specs.List.{list_all};
 ghost use Rattle.hex.specs.Hex.{decode_of};
 ghost use Rattle.trace_script.specs.Reading.{Reads};
+ghost use Rattle.trace_script.specs.declared.digits.TheConstants.{MOST_SHORT_DIGITS};
 ghost use Rattle.bus_types.specs.Text.{number_of};
 ghost use Rattle.trace_script.specs.Words.{words_of, is_lower_hex, key_of, payload_of, put_or_delete, change_of, changes_of};
 
-use crate::digits::decode;
+use crate::digits::{MOST_SHORT_DIGITS, decode, decode_short};
 use crate::fault::LineFault;
-use bus_types::{Change, Key, Payload, cut_text, read_number};
+use bus_types::{Change, Key, Payload, PayloadFault, cut_text, read_number};
 use std::alloc::Global;
 
 /// The changes that the words of a text spell, in order.
@@ -83,13 +84,32 @@ fn key_number(digits: &[u8]) -> Option<Key>
     Some(Key::Long(number))
 }
 
-/// The payload of which each byte stands as two lower-case hex digits.
+/// The payload of which each byte stands as two lower-case hex digits. One that lies in its own value takes no memory.
 #[tactic(auto, unfolding(crate::specs::Words::payload_of))]
 fn payload(alloc: Global, digits: &[u8]) -> Result<Payload, LineFault>
     ensures { Reads (λ payload. payload) result (payload_of digits.now) }
 {
+    if digits.len() <= MOST_SHORT_DIGITS {
+        return short_payload(alloc, digits);
+    }
     let bytes = hex_bytes(alloc, digits)?;
     Payload::from_vec(bytes).ok_or(LineFault::BadLine)
+}
+
+#[tactic(auto, unfolding(crate::specs::Words::payload_of))]
+fn short_payload(alloc: Global, digits: &[u8]) -> Result<Payload, LineFault>
+    requires { length digits.now ≤ MOST_SHORT_DIGITS }
+    ensures { Reads (λ payload. payload) result (payload_of digits.now) }
+{
+    if digits.len() % 2 != 0 || !all_lower_hex(digits) {
+        return Err(LineFault::BadLine);
+    }
+    let bytes = decode_short(digits);
+    match Payload::new(alloc, bytes.as_slice()) {
+        Ok(payload) => Ok(payload),
+        Err(PayloadFault::TooLong) => Err(LineFault::BadLine),
+        Err(PayloadFault::NoMemory) => Err(LineFault::NoMemory),
+    }
 }
 
 fn hex_bytes(alloc: Global, digits: &[u8]) -> Result<Vec<u8>, LineFault>

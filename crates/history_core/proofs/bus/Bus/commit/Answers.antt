@@ -12,9 +12,9 @@ returns g c =
     let made = c.in-Ok.ensures in
     let after = c.append.new.self in
     let appended = c.in_ok-append.ensures.ok in
-    let copied = c.in_ok-changes.ensures ∙ c.items.ensures in
+    let copied = c.into_vec.ensures in
     let follows = window_follows _ w (ap (λ (v : Span). v.prev) made.ok ∙ c.last.ensures.value) made.none c.size-within.ensures.fits in
     rw (← c.self.view_is) (
-      committed (state_of b) c.args.scn c.last.result c.args.changes.now w after c.new-2.result.items c.last.ensures.value (made.ok ∙ (λ i. record { scn = c.args.scn; prev = c.last.result; changes = copied i })) made.none (omega arith) appended c.new-2.ensures.items,
+      committed (state_of b) c.args.scn c.last.result c.args.changes w after c.new-2.result.items c.last.ensures.value (made.ok ∙ (λ i. record { scn = c.args.scn; prev = c.last.result; changes = copied i })) made.none (omega arith) appended c.new-2.ensures.items,
       works_commit b w after h (omega arith) follows appended,
     )
