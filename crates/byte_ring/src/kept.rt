@@ -185,12 +185,14 @@ impl Kept {
         scn_at(&self.circle, at, slot)
     }
 
-    // Where the newest window stands that the index has and that follows an SCN at or below one, or else 0.
+    // Where the newest window stands that the index has and that follows an SCN at or below one, or else 0. The first window
+    // after the SCN is one of the sixteen from there on.
     fn noted(&self, scn: u64) -> usize
         requires low { self.now.floor ≤ scn }
         requires high { scn < end_from self.now.floor self.now.windows }
         ensures within { result < length self.now.windows }
         ensures low { end_from self.now.floor (take result self.now.windows) ≤ scn }
+        ensures near { result + 16 ≤ length self.now.windows → scn < end_from self.now.floor (take (result + 16) self.now.windows) }
     {
         match find(&self.index, scn) {
             Some((_, number)) => (number - self.first) as usize,
@@ -198,7 +200,8 @@ impl Kept {
         }
     }
 
-    /// Where the windows after an SCN begin, of which there is one. It is found by the index and then by the marks.
+    /// Where the windows after an SCN begin, of which there is one. It is found by the index and then by at
+    /// most sixteen marks.
     pub fn place_after(&self, scn: u64) -> usize
         requires low { self.now.floor ≤ scn }
         requires high { scn < end_from self.now.floor self.now.windows }
