@@ -7,9 +7,9 @@ mod call;
 mod session;
 mod status;
 
+use byte_ring::ByteRing;
 pub use call::trace;
-use plain_buffer::PlainBuffer;
 pub use status::Status;
 
-/// The bus of a script, whose relay keeps its windows in a list.
-pub type Bus = history_core::Bus<PlainBuffer>;
+/// The bus of a script, whose relay keeps its windows in one circle of bytes.
+pub type Bus = history_core::Bus<ByteRing>;

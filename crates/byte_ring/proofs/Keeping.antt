@@ -1,14 +1,14 @@
 -- What a ring knows of its windows, when one is evicted and when one is pushed.
-use Rattle.std.proofs.Common.{◌≡◌, ℕ, ◌+◌, ◌-◌, ◌/◌, ◌%◌, ◌^◌, ◌<◌, ◌≤◌, true, List, [], ◌∷◌, ◌++◌, append-nil, length, length-append, map, take, drop, Some, refl, sym, ap, subst, ◌∙◌, arith}
+use Rattle.std.proofs.Common.{◌≡◌, ℕ, ◌+◌, ◌-◌, ◌%◌, ◌^◌, ◌<◌, ◌≤◌, true, List, [], ◌∷◌, ◌++◌, append-nil, length, length-append, take, drop, Some, refl, sym, ap, subst, ◌∙◌, arith}
 use Rattle.std.specs.Prelude.{slice_get}
 use Rattle.std.specs.Int.{w64}
 use Rattle.std.proofs.lemmas.List.{length-map, map-append, drop_at}
 use Rattle.std.proofs.lemmas.List.Concat.{flat_map-append}
 use Rattle.bus_types.specs.Window.{Span, span_size}
 use Rattle.bus_types.specs.Timeline.{Follows, IsTimelineFrom, end_from, total_size}
-use Rattle.bus_types.specs.Relay.{Room, sizes, sum_of, has_room}
+use Rattle.bus_types.specs.Relay.{Room, sizes, has_room}
 use Rattle.bus_types.proofs.Floors.{roomy_parts, roomy_from}
-use Rattle.bus_types.proofs.Stretches.{timeline-append, timeline_rises, rises_end}
+use Rattle.bus_types.proofs.Stretches.{timeline-append, timeline_rises}
 use Rattle.circular_buffer.specs.Buffer.{Buffer}
 use Rattle.event_codec.specs.Bytes.{window_bytes}
 use Rattle.event_codec.specs.Streams.{windows_bytes}

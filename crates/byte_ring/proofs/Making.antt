@@ -3,14 +3,11 @@ use Rattle.std.proofs.Common.{◌≡◌, ℕ, ◌+◌, ◌<◌, ◌≤◌, Bool,
 use Rattle.std.proofs.lemmas.Bool.{both_ways, le-leb}
 use Rattle.bus_types.specs.Window.{Span, span_size, IsSpan}
 use Rattle.bus_types.specs.Timeline.{end_from, total_size}
-use Rattle.bus_types.specs.Relay.{Room, IsRoom, sizes, has_room, surplus, Relay, published}
+use Rattle.bus_types.specs.Relay.{Room, IsRoom, sizes, has_room, published}
 use Rattle.bus_types.proofs.Floors.{roomy_from, surplus_first}
-use Rattle.event_codec.specs.Streams.{windows_bytes}
-use Rattle.plain_buffer.proofs.Evicting.{room_is, evicts_none, evicts_step}
+use Rattle.plain_buffer.proofs.Evicting.{room_is, evicts_none}
 use Rattle.plain_buffer.proofs.Publishing.{total_more}
-use Rattle.plain_buffer.specs.Buffer.{Evicts}
 use Rattle.byte_ring.specs.Kept.{Holds, MakesRoom}
-use Rattle.byte_ring.proofs.Pushing.{bytes_long}
 
 -- whether there is room for one more, by the numbers of windows and of bytes
 pub room_more : (room : Room) (ws : List Span) (w : Span) (count bytes size : ℕ) → count ≡ length ws → bytes ≡ total_size ws → size ≡ span_size w → (nat_le (count + 1) room.windows && nat_le (bytes + size) room.bytes) ≡ has_room room (sizes (ws ++ w ∷ []))

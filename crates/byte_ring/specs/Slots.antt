@@ -2,8 +2,8 @@
 use Rattle.std.specs.Prelude.{◌≡◌, ℕ, ◌+◌, ◌/◌, ◌%◌, ◌≤◌, true, List, [], ◌∷◌, length, map}
 use Rattle.bus_types.specs.declared.limits.TheConstants.{MAX_SCN}
 use Rattle.bus_types.specs.Window.{Span, span_size}
-use Rattle.bus_types.specs.Timeline.{IsTimelineFrom, end_from, total_size}
-use Rattle.bus_types.specs.Relay.{Room, IsRoom, sizes, has_room}
+use Rattle.bus_types.specs.Timeline.{IsTimelineFrom, total_size}
+use Rattle.bus_types.specs.Relay.{IsRoom, sizes, has_room}
 use Rattle.circular_buffer.specs.Buffer.{Buffer}
 use Rattle.event_codec.specs.Streams.{windows_bytes}
 use Rattle.scn_index.specs.Index.{Index}

@@ -1,5 +1,5 @@
 ghost use Rattle.std.specs.Prelude.{◌≡◌, ◌+◌, ◌-◌, ◌≤◌, ◌++◌, [], length, take, drop, slice_index, IfOk};
-ghost use Rattle.std.specs.Int.{w64};
+ghost use Rattle.std.specs.Int.{w16, w32, w64};
 ghost use Rattle.event_codec.specs.Reading.{number_at};
 
 use bus_types::NoMemory;
@@ -88,6 +88,31 @@ impl Circle {
             unreachable!();
         };
         *byte
+    }
+
+    /// The number of two bytes at a place.
+    #[tactic(auto, using(event_codec::proofs::Numbers::numbers))]
+    pub fn short(&self, at: usize) -> u16
+        requires { at + 2 ≤ length self.now.bytes }
+        ensures { result ≡ number_at w16 at self.now.bytes }
+    {
+        let _within = self.bytes.len();
+        u16::from_be_bytes([self.byte(at), self.byte(at + 1)])
+    }
+
+    /// The number of four bytes at a place.
+    #[tactic(auto, using(event_codec::proofs::Numbers::numbers))]
+    pub fn word(&self, at: usize) -> u32
+        requires { at + 4 ≤ length self.now.bytes }
+        ensures { result ≡ number_at w32 at self.now.bytes }
+    {
+        let _within = self.bytes.len();
+        u32::from_be_bytes([
+            self.byte(at),
+            self.byte(at + 1),
+            self.byte(at + 2),
+            self.byte(at + 3),
+        ])
     }
 
     /// The number of eight bytes at a place.

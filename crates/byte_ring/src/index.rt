@@ -1,8 +1,10 @@
-ghost use Rattle.std.specs.Prelude.{◌≡◌, ◌+◌, ◌<◌, ◌^◌, ◌++◌, length, drop};
-ghost use Rattle.scn_index.specs.Index.{AreBelow};
+ghost use Rattle.std.specs.Prelude.{◌≡◌, ◌+◌, ◌<◌, ◌^◌, ◌++◌, length, drop, MatchOption};
+ghost use Rattle.scn_index.specs.Index.{AreAbove, AreBelow, IsGreatest};
 ghost use Rattle.byte_ring.specs.Kept.{entry_of, dropped};
 
-use scn_index::ScnIndex;
+use scn_index::{ScnIndex, Steps};
+use std::marker::Brand;
+use std::sync::ledger::{Blank, Ledger};
 
 /// How many windows stand behind one entry of the index.
 const STRIDE: u64 = 16;
@@ -25,4 +27,21 @@ pub(crate) fn forget(index: &mut ScnIndex, number: u64)
     if number % STRIDE == 0 {
         index.drop_front();
     }
+}
+
+/// The entry with the greatest SCN at or below one, if there is one.
+pub(crate) fn find(index: &ScnIndex, scn: u64) -> Option<(u64, u64)>
+    ensures { MatchOption result (AreAbove scn index.now.entries) (IsGreatest scn index.now.entries) }
+{
+    find_counted::<Brand>(index, scn, Blank::new(1))
+}
+
+fn find_counted<L: Ledger>(index: &ScnIndex, scn: u64, blank: Blank) -> Option<(u64, u64)>
+    requires name { blank.name ≡ L.name }
+    requires parts { blank.parts ≡ L.parts }
+    requires some { 0 < blank.parts }
+    ensures { MatchOption result (AreAbove scn index.now.entries) (IsGreatest scn index.now.entries) }
+{
+    let mut steps = Steps::<L>::new(blank);
+    index.find(scn, &mut steps)
 }

@@ -1,11 +1,14 @@
-ghost use Rattle.std.specs.Prelude.{◌≡◌, ◌+◌, ◌≤◌, ◌<◌, ◌++◌, [], ◌∷◌, length, take, drop, true, false, IfOk};
+ghost use Rattle.std.specs.Prelude.{◌≡◌, ℕ, ◌+◌, ◌%◌, ◌^◌, ◌≤◌, ◌<◌, ◌++◌, [], ◌∷◌, length, take, drop, slice_get, Some, true, false, IfOk};
 ghost use Rattle.bus_types.specs.Window.{IsSpan};
 ghost use Rattle.bus_types.specs.Relay.{sizes, has_room};
-ghost use Rattle.bus_types.specs.Timeline.{Follows, end_from};
+ghost use Rattle.bus_types.specs.Timeline.{Follows, end_from, windows_between};
+ghost use Rattle.event_codec.specs.Streams.{windows_bytes};
 ghost use Rattle.byte_ring.specs.Kept.{MakesRoom};
+ghost use Rattle.byte_ring.specs.Parts.{WindowAt};
 
 use crate::circle::Circle;
-use crate::index::{forget, note};
+use crate::event::scn_at;
+use crate::index::{find, forget, note};
 use crate::write::push_window;
 use bus_types::{MAX_SCN, NoMemory, Window};
 use circular_buffer::HeapCircularBuffer;
@@ -19,9 +22,9 @@ use std::snapshot::Snapshot;
 #[derive(Drop)]
 pub(crate) struct Slot {
     begin: u32,
-    size: u32,
-    count: u32,
-    window: Snapshot<Window>,
+    pub size: u32,
+    pub count: u32,
+    pub window: Snapshot<Window>,
 }
 
 /// Windows that follow each other in a circle of bytes, with the index of every sixteenth, and the SCN of the window before
@@ -51,6 +54,13 @@ impl Model for Kept {
     } };
 
     ghost invariant = { λ k. IsKept k.circle k.slots k.floor k.end k.first k.index };
+}
+
+// How many bytes there are from a place to another, both counted on in 32 bits.
+fn counted(from: u32, to: u32) -> u32
+    ensures { (n : ℕ) → n < 2 ^ 32 → (from + n) % 2 ^ 32 ≡ to → result ≡ n }
+{
+    to.wrapping_sub(from)
 }
 
 impl Kept {
@@ -94,7 +104,11 @@ impl Kept {
     // Evicts the oldest window.
     fn evict_oldest(&mut self)
         requires { 0 < length self.old.windows }
-        ensures { self.new ≡ record { room = self.old.room; floor = end_from self.old.floor (take 1 self.old.windows); windows = drop 1 self.old.windows } }
+        ensures { self.new ≡ record {
+          room = self.old.room;
+          floor = end_from self.old.floor (take 1 self.old.windows);
+          windows = drop 1 self.old.windows;
+        } }
     {
         let Some(oldest) = self.slots.pop_front() else {
             unreachable!();
@@ -133,5 +147,73 @@ impl Kept {
             count: window.changes().len() as u32,
             window: Snapshot::of(window),
         });
+    }
+
+    /// How many windows are kept.
+    pub fn len(&self) -> usize
+        ensures { result ≡ length self.now.windows }
+    {
+        self.slots.len()
+    }
+
+    /// The bytes of the windows, one after the other.
+    pub fn circle(&self) -> &Circle
+        ensures { result.now.bytes ≡ windows_bytes self.now.windows }
+    {
+        &self.circle
+    }
+
+    /// The window at a place in their order: where it begins in the bytes, and its slot.
+    pub fn window(&self, i: usize) -> (usize, &Slot)
+        requires { i < length self.now.windows }
+        ensures window { slice_get self.now.windows i ≡ Some result.1.now.window.value }
+        ensures there { WindowAt (windows_bytes self.now.windows) result.0 result.1.now }
+    {
+        let Some(slot) = self.slots.get(i) else {
+            unreachable!();
+        };
+        let behind = counted(slot.begin, self.end);
+        (self.circle.len() - behind as usize, slot)
+    }
+
+    // The SCN of the window at a place in their order.
+    fn scn(&self, i: usize) -> u64
+        requires { i < length self.now.windows }
+        ensures { end_from self.now.floor (take (i + 1) self.now.windows) ≡ result }
+    {
+        let (at, slot) = self.window(i);
+        scn_at(&self.circle, at, slot)
+    }
+
+    // Where the newest window stands that the index has and that follows an SCN at or below one, or else 0. The first window
+    // after the SCN is one of the sixteen from there on.
+    fn noted(&self, scn: u64) -> usize
+        requires low { self.now.floor ≤ scn }
+        requires high { scn < end_from self.now.floor self.now.windows }
+        ensures within { result < length self.now.windows }
+        ensures low { end_from self.now.floor (take result self.now.windows) ≤ scn }
+        ensures near { result + 16 ≤ length self.now.windows → scn < end_from self.now.floor (take (result + 16) self.now.windows) }
+    {
+        match find(&self.index, scn) {
+            Some((_, number)) => (number - self.first) as usize,
+            None => 0,
+        }
+    }
+
+    /// Where the windows after an SCN begin, of which there is one. It is found by the index and then by at
+    /// most sixteen marks.
+    pub fn place_after(&self, scn: u64) -> usize
+        requires low { self.now.floor ≤ scn }
+        requires high { scn < end_from self.now.floor self.now.windows }
+        ensures after { drop result self.now.windows
+            ≡ windows_between scn (end_from self.now.floor self.now.windows) self.now.windows }
+        ensures within { result < length self.now.windows }
+    {
+        let _within = self.slots.len();
+        let mut place = self.noted(scn);
+        while self.scn(place) <= scn {
+            place += 1;
+        }
+        place
     }
 }

@@ -1,4 +1,4 @@
-use Rattle.std.proofs.Common.{◌≡◌, take, drop, arith, ap, sym, subst, ◌∙◌, refl}
+use Rattle.std.proofs.Common.{◌≡◌, take, drop, arith, ap, sym, subst, ◌∙◌}
 use Rattle.byte_ring.proofs.Keeping.{front_slot, oldest_is, holds_less, kept_same}
 use Rattle.bus_types.specs.Timeline.{end_from}
 use Rattle.byte_ring.specs.Kept.{Bytes, Holds}

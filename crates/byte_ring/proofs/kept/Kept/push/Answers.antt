@@ -1,4 +1,4 @@
-use Rattle.std.proofs.Common.{◌≡◌, ◌+◌, ◌∷◌, [], ◌++◌, ℕ, length, arith, ap, sym, subst, ◌∙◌, refl, true}
+use Rattle.std.proofs.Common.{◌≡◌, ◌+◌, ◌∷◌, [], ◌++◌, length, ap, sym, subst, ◌∙◌, refl, true}
 use Rattle.bus_types.specs.Timeline.{Follows, end_from}
 use Rattle.bus_types.specs.Relay.{Room, sizes, has_room}
 use Rattle.scn_index.specs.Index.{AreBelow}

@@ -1,4 +1,4 @@
-use Rattle.std.proofs.Common.{◌≡◌, ◌∷◌, [], ap, sym, subst, ◌∙◌}
+use Rattle.std.proofs.Common.{◌∷◌, [], ap, sym, subst, ◌∙◌}
 use Rattle.bus_types.specs.Timeline.{end_from}
 use Rattle.bus_types.specs.Relay.{Relay, published, StandsFor}
 use Rattle.bus_types.proofs.Floors.{stands_published}

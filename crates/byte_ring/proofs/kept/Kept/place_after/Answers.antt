@@ -1,0 +1,17 @@
+use Rattle.std.proofs.Common.{◌≡◌, suc, ◌+◌, take, sym, ap, subst, ◌∙◌, arith}
+use Rattle.bus_types.specs.Timeline.{end_from}
+use Rattle.bus_types.proofs.Stretches.{Rises, timeline_rises}
+use Rattle.byte_ring.specs.Kept.{Holds}
+use Rattle.byte_ring.specs.Slots.{windows_of}
+use Rattle.byte_ring.proofs.Finding.{place_found}
+use Rattle.byte_ring.proofs.kept.Kept.place_after.Goals as goal
+
+pub returns-clause-after : goal.returns-clause-after
+returns-clause-after c =
+    let kept = c.args.self.now in
+    let i = c.self.inside in
+    let place = c.loop-place.place in
+    let rises : Rises kept.floor kept.windows = subst (λ (k : Holds). Rises k.floor k.windows) c.self.view_is (timeline_rises i.floor (windows_of i.slots.items) c.self.invariant.timeline) in
+    let one : place + 1 ≡ suc place = omega arith in
+    let at : end_from kept.floor (take (suc place) kept.windows) ≡ c.scn.result = ap (λ n. end_from kept.floor (take n kept.windows)) (sym one) ∙ c.scn.ensures in
+    place_found kept.floor c.args.scn place kept.windows rises c.loop-place.invariant.within c.loop-place.invariant.low (omega (arith, at, c.loop-place-test.false))

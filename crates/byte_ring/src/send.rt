@@ -1,0 +1,193 @@
+ghost use Rattle.std.specs.Prelude.{◌≡◌, ◌+◌, ◌*◌, ◌≤◌, ◌<◌, ◌^◌, [], length, take, drop, if◌then◌else◌, OnErr};
+ghost use Rattle.bus_types.specs.Causes.{HasCause};
+ghost use Rattle.bus_types.specs.Change.{accepted};
+ghost use Rattle.bus_types.specs.Cut.{cut, cuts};
+ghost use Rattle.bus_types.specs.Window.{span_size};
+ghost use Rattle.event_codec.specs.Bytes.{changes_bytes, window_bytes};
+ghost use Rattle.event_codec.specs.Streams.{windows_bytes};
+ghost use Rattle.plain_buffer.specs.Send.{told, Sends};
+ghost use Rattle.byte_ring.specs.Parts.{between, passed, Awaiting, WindowAt, Moves};
+
+use crate::circle::Circle;
+use crate::event::{Placed, event_at};
+use crate::kept::{Kept, Slot};
+use bus_io::{Sink, WriteFault, write_all};
+use bus_types::Accepts;
+use event_codec::MARK_SIZE;
+
+/// How many bytes of a reply were sent, and those from one place of a circle to another, which await sending.
+#[derive(Clone, Copy, Debug)]
+pub(crate) struct Pending {
+    pub done: u64,
+    pub from: usize,
+    pub to: usize,
+}
+
+// Sends bytes behind `done` bytes of a reply, and answers how many bytes of it went out by then. A fault tells the same.
+fn send_bytes<W: Sink>(bytes: &[u8], done: u64, out: &mut W) -> Result<u64, WriteFault>
+    requires { done + length bytes.now < 2 ^ 64 }
+    ensures sends { Sends (told (W.written out.old) (W.room out.old)) (told (W.written out.new) (W.room out.new)) done result bytes.now }
+    ensures risen { OnErr result (W.faults out.old < W.faults out.new) }
+    ensures beside { W.beside out.new ≡ W.beside out.old }
+    ensures cause { HasCause (W.faults out.old) (W.faults out.new) result }
+{
+    match write_all(out, bytes) {
+        Ok(()) => Ok(done + bytes.len() as u64),
+        Err(fault) => Err(WriteFault {
+            written: done + fault.written,
+        }),
+    }
+}
+
+// Sends what awaits sending, in at most two parts.
+fn send_pending<W: Sink>(circle: &Circle, pending: Pending, out: &mut W) -> Result<u64, WriteFault>
+    requires awaiting { Awaiting circle.now.bytes pending }
+    requires few { passed pending < 2 ^ 64 }
+    ensures sends { Sends (told (W.written out.old) (W.room out.old)) (told (W.written out.new) (W.room out.new)) pending.done result
+        (between circle.now.bytes pending.from pending.to) }
+    ensures risen { OnErr result (W.faults out.old < W.faults out.new) }
+    ensures beside { W.beside out.new ≡ W.beside out.old }
+    ensures cause { HasCause (W.faults out.old) (W.faults out.new) result }
+{
+    let (front, back) = circle.part(pending.from, pending.to - pending.from);
+    let done = send_bytes(front, pending.done, out)?;
+    send_bytes(back, done, out)
+}
+
+// Adds bytes to those that await sending. Where they don't stand behind those, those are sent first.
+fn pass<W: Sink>(
+    circle: &Circle,
+    pending: Pending,
+    at: usize,
+    size: usize,
+    out: &mut W,
+) -> Result<Pending, WriteFault>
+    requires awaiting { Awaiting circle.now.bytes pending }
+    requires few { passed pending < 2 ^ 64 }
+    requires within { at + size ≤ length circle.now.bytes }
+    ensures moves { Moves circle.now.bytes (told (W.written out.old) (W.room out.old)) (told (W.written out.new) (W.room out.new))
+        pending result (between circle.now.bytes at (at + size)) }
+    ensures risen { OnErr result (W.faults out.old < W.faults out.new) }
+    ensures beside { W.beside out.new ≡ W.beside out.old }
+    ensures cause { HasCause (W.faults out.old) (W.faults out.new) result }
+{
+    let _within = circle.len();
+    let to = at + size;
+    if pending.to == at {
+        return Ok(Pending {
+            done: pending.done,
+            from: pending.from,
+            to,
+        });
+    }
+    let done = send_pending(circle, pending, out)?;
+    Ok(Pending { done, from: at, to })
+}
+
+// Adds the bytes of an event, where a filter accepts it.
+fn pass_event<F: Accepts, W: Sink>(
+    circle: &Circle,
+    pending: Pending,
+    at: usize,
+    event: &Placed,
+    filter: &F,
+    out: &mut W,
+) -> Result<Pending, WriteFault>
+    requires awaiting { Awaiting circle.now.bytes pending }
+    requires few { passed pending < 2 ^ 64 }
+    requires within { at + event.now.size ≤ length circle.now.bytes }
+    ensures moves { Moves circle.now.bytes (told (W.written out.old) (W.room out.old)) (told (W.written out.new) (W.room out.new))
+        pending result (if F.test filter.now event.now.source event.now.key then between circle.now.bytes at (at + event.now.size) else []) }
+    ensures risen { OnErr result (W.faults out.old < W.faults out.new) }
+    ensures beside { W.beside out.new ≡ W.beside out.old }
+    ensures cause { HasCause (W.faults out.old) (W.faults out.new) result }
+{
+    if filter.accepts(event.source, &event.key) {
+        pass(circle, pending, at, event.size, out)
+    } else {
+        Ok(pending)
+    }
+}
+
+// Adds the events that a filter accepts of a slot's window, which stands at a place.
+fn pass_events<F: Accepts, W: Sink>(
+    circle: &Circle,
+    pending: Pending,
+    at: usize,
+    slot: &Slot,
+    filter: &F,
+    out: &mut W,
+) -> Result<Pending, WriteFault>
+    requires awaiting { Awaiting circle.now.bytes pending }
+    requires few { passed pending + span_size slot.now.window.value < 2 ^ 64 }
+    requires there { WindowAt circle.now.bytes at slot.now }
+    ensures moves { Moves circle.now.bytes (told (W.written out.old) (W.room out.old)) (told (W.written out.new) (W.room out.new))
+        pending result (changes_bytes slot.now.window.value.scn (accepted (F.test filter.now) slot.now.window.value.changes)) }
+    ensures risen { OnErr result (W.faults out.old < W.faults out.new) }
+    ensures beside { W.beside out.new ≡ W.beside out.old }
+    ensures cause { HasCause (W.faults out.old) (W.faults out.new) result }
+{
+    let _within = circle.len();
+    let mut pending = pending;
+    let mut place = at;
+    for _i in 0..slot.count {
+        let event = event_at(circle, place);
+        pending = pass_event(circle, pending, place, &event, filter, out)?;
+        place += event.size;
+    }
+    Ok(pending)
+}
+
+// Adds what a filter leaves of a slot's window, which stands at a place: the events that it accepts, and the mark.
+fn pass_window<F: Accepts, W: Sink>(
+    circle: &Circle,
+    pending: Pending,
+    at: usize,
+    slot: &Slot,
+    filter: &F,
+    out: &mut W,
+) -> Result<Pending, WriteFault>
+    requires awaiting { Awaiting circle.now.bytes pending }
+    requires few { passed pending + span_size slot.now.window.value < 2 ^ 64 }
+    requires there { WindowAt circle.now.bytes at slot.now }
+    ensures moves { Moves circle.now.bytes (told (W.written out.old) (W.room out.old)) (told (W.written out.new) (W.room out.new))
+        pending result (window_bytes (cut (F.test filter.now) slot.now.window.value)) }
+    ensures risen { OnErr result (W.faults out.old < W.faults out.new) }
+    ensures beside { W.beside out.new ≡ W.beside out.old }
+    ensures cause { HasCause (W.faults out.old) (W.faults out.new) result }
+{
+    let pending = pass_events(circle, pending, at, slot, filter, out)?;
+    let _within = circle.len();
+    let mark = at + slot.size as usize - MARK_SIZE;
+    pass(circle, pending, mark, MARK_SIZE, out)
+}
+
+/// Sends what a filter leaves of so many windows from a place in their order on, in parts that are as long as it leaves
+/// them. A fault tells how many bytes went out.
+pub(crate) fn send_windows<F: Accepts, W: Sink>(
+    kept: &Kept,
+    from: usize,
+    count: u32,
+    filter: &F,
+    out: &mut W,
+) -> Result<u64, WriteFault>
+    requires { from + count ≤ length kept.now.windows }
+    ensures sends { Sends (told (W.written out.old) (W.room out.old)) (told (W.written out.new) (W.room out.new)) 0 result
+        (windows_bytes (cuts (F.test filter.now) (take count (drop from kept.now.windows)))) }
+    ensures risen { OnErr result (W.faults out.old < W.faults out.new) }
+    ensures beside { W.beside out.new ≡ W.beside out.old }
+    ensures cause { HasCause (W.faults out.old) (W.faults out.new) result }
+{
+    let _within = kept.len();
+    let circle = kept.circle();
+    let mut pending = Pending {
+        done: 0,
+        from: 0,
+        to: 0,
+    };
+    for i in 0..count {
+        let (at, slot) = kept.window(from + i as usize);
+        pending = pass_window(circle, pending, at, slot, filter, out)?;
+    }
+    send_pending(circle, pending, out)
+}
