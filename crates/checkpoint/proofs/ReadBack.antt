@@ -1,9 +1,10 @@
 -- The text of a mark is that of its object, and the mark is found again in it.
-use Rattle.std.proofs.Common.{◌≡◌, Some, refl, arith}
+use Rattle.std.proofs.Common.{◌≡◌, ℕ, false, List, Some, refl, arith}
 use Rattle.bus_types.proofs.CursorTexts.{cursor_again}
-use Rattle.serde_json.specs.Data.{no_members}
+use Rattle.serde_json.specs.Data.{Data, no_members}
+use Rattle.serde_json.specs.Written.{has_float, compact_text}
 use Rattle.text_forms.specs.Objects.{AreMembers, members_data, object_text, put_all, ObjectForm}
-use Rattle.text_forms.proofs.ObjectTexts.{in_pieces-is, one_value}
+use Rattle.text_forms.proofs.ObjectTexts.{in_pieces-is, written_value, one_value}
 use Rattle.checkpoint.specs.declared.mark.Mark.{Mark}
 use Rattle.checkpoint.specs.declared.mark.Mark.TheVariants.{Online, Delta, Snapshot, Scanned, Catchup}
 use Rattle.checkpoint.specs.Mark.{IsMark, mark_text}
@@ -37,3 +38,7 @@ mark_form = record { spelled = spelled; members_are = members_are; ordered = ord
 
 pub one_mark : (m n : Mark) → IsMark m → IsMark n → mark_text m ≡ mark_text n → m ≡ n
 one_mark = one_value mark_form
+
+-- what a writer says of the text of its object
+pub printed_mark : (mark : Mark) (d : Data) (text : List ℕ) → IsMark mark → d ≡ data_of mark → (has_float d ≡ false → text ≡ compact_text d) → text ≡ mark_text mark
+printed_mark = written_value mark_form

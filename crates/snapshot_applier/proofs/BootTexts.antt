@@ -1,10 +1,12 @@
 -- The text of a boot mark is that of its object, and the boot mark is found again in it.
-use Rattle.std.proofs.Common.{◌≡◌, refl, arith}
+use Rattle.std.proofs.Common.{◌≡◌, ℕ, false, List, refl, arith}
+use Rattle.serde_json.specs.Data.{Data}
+use Rattle.serde_json.specs.Written.{has_float, compact_text}
 use Rattle.text_forms.specs.Objects.{ObjectForm}
-use Rattle.text_forms.proofs.ObjectTexts.{in_pieces-is, one_value}
+use Rattle.text_forms.proofs.ObjectTexts.{in_pieces-is, written_value, one_value}
 use Rattle.snapshot_applier.specs.declared.boot.BootMark.{BootMark}
 use Rattle.snapshot_applier.specs.BootMark.{IsBootMark, boot_mark_text}
-use Rattle.snapshot_applier.specs.Members.{boot_members, boot_in}
+use Rattle.snapshot_applier.specs.Members.{boot_members, boot_data, boot_in}
 
 pub boot_form : ObjectForm IsBootMark boot_mark_text boot_members boot_in
 unfolding boot_in
@@ -18,3 +20,7 @@ boot_form = record {
 -- two boot marks have two texts
 pub one_boot : (m n : BootMark) → IsBootMark m → IsBootMark n → boot_mark_text m ≡ boot_mark_text n → m ≡ n
 one_boot = one_value boot_form
+
+-- what a writer says of the text of its object
+pub printed_boot : (m : BootMark) (d : Data) (text : List ℕ) → IsBootMark m → d ≡ boot_data m → (has_float d ≡ false → text ≡ compact_text d) → text ≡ boot_mark_text m
+printed_boot = written_value boot_form
