@@ -5,3 +5,6 @@ pub mod Fresh
 pub mod Publishing
 pub mod Starting
 pub mod Answering
+pub mod Counted
+pub mod Gathering
+pub mod Lending

@@ -47,8 +47,7 @@ pub record IsFirst (timeline : Option (List Span)) (evicted published scn : ℕ)
 -- why none is: the first one was evicted, or none is published yet, or one has to look again
 abbrev pub IsMissed : Option (List Span) → ℕ → ℕ → ℕ → Miss → Type 0
 IsMissed timeline evicted published scn (misses.NotFound floor) = (scn < floor) × (evicted < published) × IsBefore timeline evicted floor
-IsMissed timeline evicted published scn (misses.Empty tail) = (tail ≤ scn) × ((evicted < published) ⊎ (published ≡ 0))
-    × IsBefore timeline published tail
+IsMissed timeline evicted published scn (misses.Empty tail) = (tail ≤ scn) × ((evicted < published) ⊎ (published ≡ 0)) × IsBefore timeline published tail
 IsMissed timeline evicted published scn misses.Again = Unit {0}
 
 -- that none was found is this answer of the relay

@@ -71,13 +71,7 @@ pub record IsRing (ring : RingIs) (cell_count window_count : ℕ) : Type 0 where
   pub windows : window_count ≡ ring.limits.windows
 
 abbrev pub pass_of : TableId → View → PassIs
-pass_of id v = record {
-  home = record { table = id; limits = v.limits };
-  evicted = v.evicted;
-  published = v.published;
-  floor_loads = v.floor_loads;
-  tail_loads = v.tail_loads;
-}
+pass_of id v = record { home = record { table = id; limits = v.limits }; evicted = v.evicted; published = v.published; floor_loads = v.floor_loads; tail_loads = v.tail_loads }
 
 abbrev pub note_of : TableId → View → NoteIs
 note_of id v = record { home = record { table = id; limits = v.limits }; evicted = v.evicted; published = v.published }

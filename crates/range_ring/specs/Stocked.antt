@@ -43,5 +43,4 @@ pub record IsStock (s : StockIs) (bound : ℕ) : Type 0 where
 -- where a timeline is told, they are of its windows, and no more were evicted than had to be
 abbrev pub IsStocked : Limits → Option (List Span) → StockIs → Type 0
 IsStocked limits None s = Unit {0}
-IsStocked limits (Some windows) s = (s.evicted ≡ evicted_at limits windows s.published)
-    × (s.sizes ≡ drop s.evicted (take s.published (sizes windows)))
+IsStocked limits (Some windows) s = (s.evicted ≡ evicted_at limits windows s.published) × (s.sizes ≡ drop s.evicted (take s.published (sizes windows)))

@@ -24,8 +24,7 @@ IsEvicted limits (Some windows) published evicted = evicted ≡ evicted_at limit
 -- evicts. Where no timeline is told, nothing is said
 abbrev pub IsSeen : Limits → Option (List Span) → ℕ → ℕ → Type 0
 IsSeen limits None evicted published = Unit {0}
-IsSeen limits (Some windows) evicted published = (published ≤ length windows)
-    × (evicted ≤ evicted_at limits windows (min (published + 1) (length windows)))
+IsSeen limits (Some windows) evicted published = (published ≤ length windows) × (evicted ≤ evicted_at limits windows (min (published + 1) (length windows)))
 
 -- ---- the rule
 
@@ -67,8 +66,7 @@ floor_seen s old found new = (new ≡ (record old.0 { evicted = found; floor_loa
 
 -- a load of TAIL
 abbrev pub tail_seen : Option (List Span) → Step ℕ → Me ℕ View → ℕ → Me ℕ View → Type 0
-tail_seen told s old found new = (new ≡ (record old.0 { published = found; tail_loads = old.0.tail_loads + 1 }, old.1))
-    × (old.0.published ≤ found) × (old.0.evicted ≤ found) × IsSeen old.0.limits told old.0.evicted found
+tail_seen told s old found new = (new ≡ (record old.0 { published = found; tail_loads = old.0.tail_loads + 1 }, old.1)) × (old.0.published ≤ found) × (old.0.evicted ≤ found) × IsSeen old.0.limits told old.0.evicted found
 
 -- a raise of FLOOR, and one of TAIL
 abbrev pub floor_raised : Step ℕ → Me ℕ View → ℕ → Me ℕ View → Type 0
