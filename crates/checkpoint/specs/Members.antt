@@ -13,10 +13,11 @@ use Rattle.checkpoint.specs.declared.mark.Mark.TheVariants.{Online, Delta, Snaps
 abbrev pub mark_members : Mark → List Member
 mark_members (Online scn) = (codes "mode", Fixed (codes "online")) ∷ (codes "scn", Number scn) ∷ []
 mark_members (Delta since target cursor) =
-    (codes "cursor", Text (cursor_text cursor)) ∷ (codes "mode", Fixed (codes "delta")) ∷ (codes "since", Number since) ∷ (codes "target", Number target) ∷ []
+    (codes "cursor", Text (cursor_text cursor)) ∷ (codes "mode", Fixed (codes "delta")) ∷ (codes "since", Number since)
+    ∷ (codes "target", Number target) ∷ []
 mark_members (Snapshot since start top cursor) =
-    (codes "cursor", Text (cursor_text cursor)) ∷ (codes "mode", Fixed (codes "snapshot")) ∷ (codes "since", Number since) ∷ (codes "start", Number start)
-    ∷ (codes "top", Number top) ∷ []
+    (codes "cursor", Text (cursor_text cursor)) ∷ (codes "mode", Fixed (codes "snapshot")) ∷ (codes "since", Number since)
+    ∷ (codes "start", Number start) ∷ (codes "top", Number top) ∷ []
 mark_members (Scanned since start top) =
     (codes "mode", Fixed (codes "scanned")) ∷ (codes "since", Number since) ∷ (codes "start", Number start) ∷ (codes "top", Number top) ∷ []
 mark_members (Catchup since start target at) =
