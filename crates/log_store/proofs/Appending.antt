@@ -37,11 +37,11 @@ pub unchanged_grows : {D : Type 0} (state : D → DiskState) (s : StoreParts D) 
     → IfSome (log_of state s).windows (λ ws. passes state (ws ++ w ∷ []) (growing_to w.scn (log_of state s)) s s)
 unchanged_grows state s is w follows =
     if_told (is_told state s) (windows state s) _ (λ told. Passes.Stays (λ images beside.
-      growing_part (log_of state s) images (windows state s ++ w ∷ []) (windows state s) w.scn s.high (omega arith) (omega (arith, follows.chained, follows.within.prev))
-      (old_part s.floor s.high (windows state s) (line state s is told).0 (line state s is told).1 w follows) (rest_log state s is told images beside)))
+    growing_part (log_of state s) images (windows state s ++ w ∷ []) (windows state s) w.scn s.high (omega arith) (omega (arith, follows.chained, follows.within.prev))
+    (old_part s.floor s.high (windows state s) (line state s is told).0 (line state s is told).1 w follows) (rest_log state s is told images beside)))
 
 module _ {D : Type 0} (state : D → DiskState) (old : StoreParts D) (is : IsStore state old) (w : Span) (follows : Follows old.high w) (p : ℕ) (last : last_place old.order ≡ Some p)
-  (before after : SegmentParts D) (stood : slice_get old.segments p ≡ Some before) where
+    (before after : SegmentParts D) (stood : slice_get old.segments p ≡ Some before) where
   abbrev now : List (SegmentParts D)
   now = slice_set old.segments p after
 
@@ -51,14 +51,14 @@ module _ {D : Type 0} (state : D → DiskState) (old : StoreParts D) (is : IsSto
   full_is : lacks_room (span_size w) before.numbers.used ≡ false → (log_of state old).full (span_size w) ≡ false
   full_is room =
       let used : used_at old.segments (last_place old.order) ≡ Some before.numbers.used =
-          ap (used_at old.segments) last ∙ ap (λ (n : Numbers). Some n.used) (numbers_before state old.segments p before after stood) in
+      ap (used_at old.segments) last ∙ ap (λ (n : Numbers). Some n.used) (numbers_before state old.segments p before after stood) in
       ap (λ u. is_full u (free_place old.segments) (span_size w)) used ∙ not_full (span_size w) before.numbers.used (free_place old.segments) room
 
   crash_of : (r : Result Unit LogFault) → Appends w (told state before) (told state after) r → (new : StoreParts D) → new.segments ≡ now
       → IfSome (log_of state old).windows (λ ws. passes state (ws ++ w ∷ []) (growing_to w.scn (log_of state old)) old new)
   crash_of r made new same =
       if_told (is_told state old) (windows state old) _ (λ told. subst (λ n. Passes (disks state) (HoldPart (windows state old ++ w ∷ []) (growing_to w.scn (log_of state old))) old.segments n) (sym same)
-        (grow_passes state old is w follows p last before after stood r made told))
+      (grow_passes state old is w follows p last before after stood r made told))
 
   pub append_done : (scn : ℕ) (x : Unit {0}) → scn ≡ w.scn → Appends w (told state before) (told state after) (Ok x) → Grows state w old (record old { segments = now; high = scn }) (Ok x)
   append_done scn x scn_is made = record {

@@ -51,9 +51,9 @@ module _ (nums now : ℕ → Numbers) (p : ℕ) (others : (i : ℕ) → (i ≡ p
       sorted_push (λ i. (now i).floor) p order (λ i k. inl (omega (arith, same i k, below i k, last))) (sorted_same (λ i. (nums i).floor) (λ i. (now i).floor) order same sorted)
 
 module _ {D : Type 0} (state : D → DiskState) (old : StoreParts D) (is : IsStore state old) (w : Span) (follows : Follows old.high w) (p : ℕ)
-  (lacks : (l : ℕ) → last_place old.order ≡ Some l → lacks_room (span_size w) (numbers_at old.segments l).used ≡ true)
-  (before after : SegmentParts D) (stood : slice_get old.segments p ≡ Some before) (unused : before.numbers.in_use ≡ false)
-  (r : Result Unit LogFault) (made : PutsFirst w (told state before) (told state after) r) where
+    (lacks : (l : ℕ) → last_place old.order ≡ Some l → lacks_room (span_size w) (numbers_at old.segments l).used ≡ true)
+    (before after : SegmentParts D) (stood : slice_get old.segments p ≡ Some before) (unused : before.numbers.in_use ≡ false)
+    (r : Result Unit LogFault) (made : PutsFirst w (told state before) (told state after) r) where
   abbrev ss : List (SegmentParts D)
   ss = old.segments
 
@@ -81,7 +81,7 @@ module _ {D : Type 0} (state : D → DiskState) (old : StoreParts D) (is : IsSto
         let used = joined_used (numbers_at ss) old.floor old.high old.order is.joined l (last_is_in old.order l last) in
         let h = held state ss (is.stands is_told_old).each l used in
         let full : lacks_room (span_size w) (length (whole (floor_at ss l) (windows_at state ss l)) + 1) ≡ true =
-            subst (λ u. lacks_room (span_size w) u ≡ true) (ap (λ (o : Option (SegmentParts D)). (numbers_in o).used) h.1 ∙ ap (λ (n : Numbers). n.used) h.2.numbers) (lacks l last) in
+        subst (λ u. lacks_room (span_size w) u ≡ true) (ap (λ (o : Option (SegmentParts D)). (numbers_in o).used) h.1 ∙ ap (λ (n : Numbers). n.used) h.2.numbers) (lacks l last) in
         let more = some_windows (floor_at ss l) (span_size w) (windows_at state ss l) h.2.chained follows.within.size full in
         omega (arith, more, high_is state ss (is.stands is_told_old).each l used, joined_last (numbers_at ss) old.floor old.high l old.order last is.joined)
 
@@ -124,7 +124,7 @@ module _ {D : Type 0} (state : D → DiskState) (old : StoreParts D) (is : IsSto
         let each = swapped (numbers_at ss) (windows_at state ss) images p m vs c (each_left images beside) at here in
         let rising : IsRising m = record { in_use = refl; rises = omega (arith, ends, le, follows.chained) } in
         let all : windows_of wins (old.order ++ p ∷ []) ≡ windows state old ++ vs =
-            windows_push (windows_at state ss) wins p (swap_else p vs (windows_at state ss)) old.order not_in ∙ ap (λ (l : List Span). windows state old ++ l) (swap_here p vs (windows_at state ss)) in
+        windows_push (windows_at state ss) wins p (swap_else p vs (windows_at state ss)) old.order not_in ∙ ap (λ (l : List Span). windows state old ++ l) (swap_here p vs (windows_at state ss)) in
         subst (λ (l : List Span). HoldLog old.floor newest l images) all
         (hold_log nums wins (old.order ++ p ∷ []) old.floor newest images
         (begun_joined (numbers_at ss) nums p others m mine old.order not_in old.floor old.high newest follows.chained rising ends is.joined)
@@ -148,7 +148,7 @@ module _ {D : Type 0} (state : D → DiskState) (old : StoreParts D) (is : IsSto
     begin_passes =
         Passes.Goes p
         (Passes.Stays (λ images beside. growing_part (log_of state old) images (windows state old ++ w ∷ []) (windows state old) w.scn old.high (omega arith) upto
-          (old_part old.floor old.high (windows state old) (line state old is is_told_old).0 (line state old is is_told_old).1 w follows) (rest_log state old is is_told_old images beside)))
+        (old_part old.floor old.high (windows state old) (line state old is is_told_old).0 (line state old is is_told_old).1 w follows) (rest_log state old is is_told_old images beside)))
         (record {
           before = before;
           after = after;

@@ -70,8 +70,8 @@ module _ {D : Type 0} (state : D → DiskState) (old : StoreParts D) (is : IsSto
   }
 
 module _ {D : Type 0} (state : D → DiskState) (old : StoreParts D) (is : IsStore state old) (w : Span) (follows : Follows old.high w) (p : ℕ) (found : free_place old.segments ≡ Some p)
-  (none : if_roomy old.segments (span_size w) (last_place old.order) ≡ None)
-  (before after : SegmentParts D) (stood : slice_get old.segments p ≡ Some before) (unused : before.numbers.in_use ≡ false) where
+    (none : if_roomy old.segments (span_size w) (last_place old.order) ≡ None)
+    (before after : SegmentParts D) (stood : slice_get old.segments p ≡ Some before) (unused : before.numbers.in_use ≡ false) where
   abbrev now : List (SegmentParts D)
   now = slice_set old.segments p after
 
@@ -88,7 +88,7 @@ module _ {D : Type 0} (state : D → DiskState) (old : StoreParts D) (is : IsSto
       → IfSome (log_of state old).windows (λ ws. passes state (ws ++ w ∷ []) (growing_to w.scn (log_of state old)) old new)
   crash_of r made new same =
       if_told (is_told state old) (windows state old) _ (λ told. subst (λ n. Passes (disks state) (HoldPart (windows state old ++ w ∷ []) (growing_to w.scn (log_of state old))) old.segments n) (sym same)
-        (begin_passes state old is w follows p lacks before after stood unused r made told))
+      (begin_passes state old is w follows p lacks before after stood unused r made told))
 
   not_there : IsIn p old.order → ⊥
   not_there k = not_both (numbers_at old.segments p).in_use (joined_used (numbers_at old.segments) old.floor old.high old.order is.joined p k)
@@ -153,8 +153,11 @@ module _ {D : Type 0} (state : D → DiskState) (old : StoreParts D) (is : IsSto
   begin_kept made = record {
     appends = record {
       counts = record { faults = later_faults (Err faults.NoMemory) made; failed = tt; sound = tt; room = refl };
-      leaves = (free_is, same_log state old now (λ told. windows_else (windows_at state old.segments) (windows_at state now) p (windows_others state old.segments p before after stood) old.order not_there)
-        (used_last old.segments now old.order same_numbers) (free_same old.segments p before after stood (made.leaves ∙ sym unused)));
+      leaves = (
+        free_is,
+        same_log state old now (λ told. windows_else (windows_at state old.segments) (windows_at state now) p (windows_others state old.segments p before after stood) old.order not_there)
+            (used_last old.segments now old.order same_numbers) (free_same old.segments p before after stood (made.leaves ∙ sym unused)),
+      );
     };
     crash = crash_of (Err faults.NoMemory) made (record old { segments = now }) refl;
   }
@@ -171,7 +174,7 @@ module _ {D : Type 0} (state : D → DiskState) (old : StoreParts D) (is : IsSto
           each = λ i s at.
               by_place p i (λ k. slice_get now k ≡ Some s → StandsSeen (told state s))
               (λ e. subst (λ (t : SegmentParts D). StandsSeen (told state t)) (same_Some after s (sym (set_here old.segments p after before stood) ∙ e))
-                (free_seen (told state after) (made.back ((stand.each p before stood).free unused))))
+              (free_seen (told state after) (made.back ((stand.each p before stood).free unused))))
               (λ k e. stand.each i s (sym (set_else old.segments p i after k) ∙ e)) at;
           covers = λ i used.
               by_place p i (λ k. (numbers_at now k).in_use ≡ true → IsIn k old.order)

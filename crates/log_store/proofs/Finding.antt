@@ -135,7 +135,7 @@ module _ {D : Type 0} (state : D → DiskState) (old : StoreParts D) (is : IsSto
       }
 
   module _ (p : ℕ) (place : place_after (high_at old.segments) scn old.order ≡ Some p) (before after : SegmentParts D) (stood : slice_get old.segments p ≡ Some before)
-    (r : Result (Option Span) LogFault) (made : ReadsNext scn (told state before) (told state after) r) where
+      (r : Result (Option Span) LogFault) (made : ReadsNext scn (told state before) (told state after) r) where
     abbrev ss : List (SegmentParts D)
     ss = old.segments
 
@@ -205,7 +205,7 @@ module _ {D : Type 0} (state : D → DiskState) (old : StoreParts D) (is : IsSto
             each = λ i s at.
                 by_place p i (λ k. slice_get now k ≡ Some s → StandsSeen (told state s))
                 (λ e. subst (λ (t : SegmentParts D). StandsSeen (told state t)) (same_Some after s (sym (set_here ss p after before stood) ∙ e))
-                  (stands_seen before.numbers.floor seen (told state after) (made.stands before.numbers.floor seen stands)))
+                (stands_seen before.numbers.floor seen (told state after) (made.stands before.numbers.floor seen stands)))
                 (λ k e. stand.each i s (sym (set_else ss p i after k) ∙ e)) at;
             covers = λ i used. stand.covers i (sym (part (λ n. n.in_use) (ap (λ (n : Numbers). n.in_use) made.numbers) i) ∙ used);
             sorted = sorted_same (floor_at ss) (floor_at now) old.order (λ i m. part (λ n. n.floor) (ap (λ (n : Numbers). n.floor) made.numbers) i) stand.sorted;
@@ -214,7 +214,7 @@ module _ {D : Type 0} (state : D → DiskState) (old : StoreParts D) (is : IsSto
       read_passes : Passes (disks state) (HoldPart (windows state old) (at_rest (log_of state old))) ss now
       read_passes =
           let rest : (images : List (List ℕ)) → HoldLog old.floor old.high (windows state old) images → HoldPart (windows state old) (at_rest (log_of state old)) images =
-              λ images. at_rest_part (log_of state old) images (windows state old) (windows state old) (all_part old.floor old.high (windows state old) (line state old is yes).0 (line state old is yes).1) in
+          λ images. at_rest_part (log_of state old) images (windows state old) (windows state old) (all_part old.floor old.high (windows state old) (line state old is yes).0 (line state old is yes).1) in
           let stand = is.stands yes in
           Passes.Goes p (Passes.Stays (λ images beside. rest images (rest_log state old is yes images beside)))
           (record {

@@ -42,7 +42,7 @@ module _ (nums now : ℕ → Numbers) (p : ℕ) (others : (i : ℕ) → (i ≡ p
       (λ i m. ap (λ (n : Numbers). n.floor) (others i (λ e. joined.2 (subst (λ k. IsIn k more) e m)))) sorted.1
 
 module _ {D : Type 0} (state : D → DiskState) (old : StoreParts D) (is : IsStore state old) (scn p : ℕ) (more : List ℕ) (order_is : old.order ≡ p ∷ more) (some : more ≡ [] → ⊥)
-  (before after : SegmentParts D) (stood : slice_get old.segments p ≡ Some before) (low : before.numbers.high ≤ scn) (r : Result Unit Failed) (made : Frees (told state before) (told state after) r) where
+    (before after : SegmentParts D) (stood : slice_get old.segments p ≡ Some before) (low : before.numbers.high ≤ scn) (r : Result Unit Failed) (made : Frees (told state before) (told state after) r) where
   abbrev ss : List (SegmentParts D)
   ss = old.segments
 
@@ -165,7 +165,7 @@ module _ {D : Type 0} (state : D → DiskState) (old : StoreParts D) (is : IsSto
         high = refl;
         windows = if_map (is_told state old) (windows_between floor old.high) (windows state old) (windows_of (windows_at state now) order)
             (λ yes. ap (windows_of (windows_at state now)) order_more ∙ windows_else (windows_at state ss) (windows_at state now) p (windows_others state ss p before after stood) more joined.2 ∙ rest_part yes
-              ∙ ap (λ l. windows_between l old.high (windows state old)) (sym floor_is));
+            ∙ ap (λ l. windows_between l old.high (windows state old)) (sym floor_is));
       };
       all = tt;
     };
@@ -229,7 +229,7 @@ drops_none state s scn x is = record {
     all = tt;
   };
   crash = if_told (is_told state s) (windows state s) _ (λ yes. Passes.Stays (λ images beside.
-    dropping_part (log_of state s) images (windows state s) (windows state s) scn s.floor (omega arith) (omega arith) (all_part s.floor s.high (windows state s) (line state s is yes).0 (line state s is yes).1) (rest_log state s is yes images beside)));
+      dropping_part (log_of state s) images (windows state s) (windows state s) scn s.floor (omega arith) (omega arith) (all_part s.floor s.high (windows state s) (line state s is yes).0 (line state s is yes).1) (rest_log state s is yes images beside)));
 }
 
 between_twice : (a b c : LogState) (told : Option (List Span)) → a.floor ≤ b.floor → b.floor ≤ c.floor → b.high ≡ a.high

@@ -45,7 +45,7 @@ module _ (nums now : ℕ → Numbers) (p : ℕ) (others : (i : ℕ) → (i ≡ p
       (λ i m. by_place p i (λ k. (now k).floor ≡ (nums k).floor) (ap (λ (n : Numbers). n.floor) here ∙ floor) (λ not. ap (λ (n : Numbers). n.floor) (others i not))) sorted
 
 module _ {D : Type 0} (state : D → DiskState) (old : StoreParts D) (is : IsStore state old) (w : Span) (follows : Follows old.high w) (p : ℕ) (last : last_place old.order ≡ Some p)
-  (before after : SegmentParts D) (stood : slice_get old.segments p ≡ Some before) (r : Result Unit LogFault) (made : Appends w (told state before) (told state after) r) where
+    (before after : SegmentParts D) (stood : slice_get old.segments p ≡ Some before) (r : Result Unit LogFault) (made : Appends w (told state before) (told state after) r) where
   abbrev ss : List (SegmentParts D)
   ss = old.segments
 
@@ -98,8 +98,8 @@ module _ {D : Type 0} (state : D → DiskState) (old : StoreParts D) (is : IsSto
         let mine = swap_here p m (numbers_at ss) in
         let each = swapped (numbers_at ss) (windows_at state ss) images p m (seen ++ w ∷ []) c (each_left images beside) at here in
         let whole : windows_of wins old.order ≡ windows state old ++ w ∷ [] =
-            windows_grow (windows_at state ss) wins p (swap_else p (seen ++ w ∷ []) (windows_at state ss)) (numbers_at ss) old.floor old.high old.order (w ∷ []) last is.joined
-            (swap_here p (seen ++ w ∷ []) (windows_at state ss) ∙ ap (λ (l : List Span). l ++ w ∷ []) (sym (windows_before state ss p before after stood))) in
+        windows_grow (windows_at state ss) wins p (swap_else p (seen ++ w ∷ []) (windows_at state ss)) (numbers_at ss) old.floor old.high old.order (w ∷ []) last is.joined
+        (swap_here p (seen ++ w ∷ []) (windows_at state ss) ∙ ap (λ (l : List Span). l ++ w ∷ []) (sym (windows_before state ss p before after stood))) in
         let upto : old.high ≤ w.scn = omega (arith, follows.chained, follows.within.prev) in
         growing_part (log_of state old) images (windows state old ++ w ∷ []) (windows state old ++ w ∷ []) w.scn w.scn upto (omega arith)
         (new_part old.floor old.high (windows state old) (line state old is is_told_old).0 (line state old is is_told_old).1 w follows)
@@ -114,7 +114,7 @@ module _ {D : Type 0} (state : D → DiskState) (old : StoreParts D) (is : IsSto
     grow_passes =
         Passes.Goes p
         (Passes.Stays (λ images beside. growing_part (log_of state old) images (windows state old ++ w ∷ []) (windows state old) w.scn old.high (omega arith) (omega (arith, follows.chained, follows.within.prev))
-          (old_part old.floor old.high (windows state old) (line state old is is_told_old).0 (line state old is is_told_old).1 w follows) (rest_log state old is is_told_old images beside)))
+        (old_part old.floor old.high (windows state old) (line state old is is_told_old).0 (line state old is is_told_old).1 w follows) (rest_log state old is is_told_old images beside)))
         (record {
           before = before;
           after = after;

@@ -78,7 +78,7 @@ at_below (x ∷ xs) zero lt = (x, refl)
 at_below (x ∷ xs) (suc i) lt = at_below xs i (omega (arith, lt))
 
 module _ (nums : ℕ → Numbers) (wins : ℕ → List Span) (order : List ℕ) (images : List (List ℕ)) (in_use : (i : ℕ) → IsIn i order → (nums i).in_use ≡ true) (covers : (i : ℕ) → (nums i).in_use ≡ true → IsIn i order)
-  (sorted : AreInOrder (λ i. (nums i).floor) order) (below : AllBelow (length images) order) (each : (i : ℕ) (c : List ℕ) → slice_get images i ≡ Some c → IsPlace (nums i) (wins i) c) where
+    (sorted : AreInOrder (λ i. (nums i).floor) order) (below : AllBelow (length images) order) (each : (i : ℕ) (c : List ℕ) → slice_get images i ≡ Some c → IsPlace (nums i) (wins i) c) where
   found : (i : ℕ) → IsIn i order → (bytes : List ℕ) × (slice_get images i ≡ Some bytes) × HoldsInUse (nums i).floor (wins i) bytes × ((nums i).high ≡ end_from (nums i).floor (wins i))
   found i m =
       let at = at_below images i (in_below (length images) i order below m) in
@@ -136,17 +136,19 @@ module _ {D : Type 0} (state : D → DiskState) where
         let wins = windows_at state ss in
         let rest = held_timeline (numbers_at ss i).high high is h.3 in
         let stands = (held i h.1.in_use).2 in
-        let ends : (numbers_at ss i).high ≡ end_from low (wins i) = high_is i h.1.in_use ∙ ap (λ l. end_from l (wins i)) h.0 in
-        (timelines_joined low (wins i) (windows_of wins is) (subst (λ l. IsTimelineFrom l (wins i)) h.0 stands.chained) (subst (λ l. IsTimelineFrom l (windows_of wins is)) ends rest.0),
-        end_from-append low (wins i) (windows_of wins is) ∙ ap (λ l. end_from l (windows_of wins is)) (sym ends) ∙ rest.1)
+        let ends : (numbers_at ss i).high ≡ end_from low (wins i) = high_is i h.1.in_use ∙ ap (λ l. end_from l (wins i)) h.0 in (
+          timelines_joined low (wins i) (windows_of wins is) (subst (λ l. IsTimelineFrom l (wins i)) h.0 stands.chained) (subst (λ l. IsTimelineFrom l (windows_of wins is)) ends rest.0),
+          end_from-append low (wins i) (windows_of wins is) ∙ ap (λ l. end_from l (windows_of wins is)) (sym ends) ∙ rest.1,
+        )
 
   -- what a crash leaves of one
   pub left_place : (s : SegmentParts D) (c : List ℕ) → StandsSeen (told state s) → may_leave (state s.disk).clock c → IsPlace s.numbers (windows_seen (state s.disk).seen) c
   left_place s c h left = record {
     used = λ used.
-        let stands = h.used used in
-        (record { low = stands.low; chained = stands.chained; ends = subst (Ends (whole s.numbers.floor (windows_seen (state s.disk).seen))) (sym (stands.rests.rests.only c left)) stands.rests.ends },
-        ap (λ (n : Numbers). n.high) stands.numbers);
+        let stands = h.used used in (
+          record { low = stands.low; chained = stands.chained; ends = subst (Ends (whole s.numbers.floor (windows_seen (state s.disk).seen))) (sym (stands.rests.rests.only c left)) stands.rests.ends },
+          ap (λ (n : Numbers). n.high) stands.numbers,
+        );
     free = λ free. let stands = h.free free in subst IsFree (sym (stands.rests.rests.only c left)) stands.rests.ends;
   }
 
@@ -154,7 +156,7 @@ module _ {D : Type 0} (state : D → DiskState) where
   paired xs ys i x many at = at_below ys i (omega (arith, many, slice_get_within xs i x at))
 
   module _ (place : ℕ) (ss : List (SegmentParts D)) (images : List (List ℕ)) (beside : LeaveBeside (λ (s : SegmentParts D). state s.disk) place ss images)
-    (each : (i : ℕ) (s : SegmentParts D) → slice_get ss i ≡ Some s → StandsSeen (told state s)) where
+      (each : (i : ℕ) (s : SegmentParts D) → slice_get ss i ≡ Some s → StandsSeen (told state s)) where
     pub left_else : (i : ℕ) (c : List ℕ) → (i ≡ place → ⊥) → slice_get images i ≡ Some c → IsPlace (numbers_at ss i) (windows_at state ss i) c
     left_else i c not at =
         let s = paired images ss i c beside.many at in
@@ -183,7 +185,7 @@ swap_part part p x f same i =
     by_place p i (λ k. part (swap p x f k) ≡ part (f k)) (ap part (swap_here p x f) ∙ same) (λ not. ap part (swap_else p x f i not))
 
 module _ (nums : ℕ → Numbers) (wins : ℕ → List Span) (images : List (List ℕ)) (p : ℕ) (n : Numbers) (ws : List Span) (c : List ℕ)
-  (each : (i : ℕ) (d : List ℕ) → (i ≡ p → ⊥) → slice_get images i ≡ Some d → IsPlace (nums i) (wins i) d) (at : slice_get images p ≡ Some c) (here : IsPlace n ws c) where
+    (each : (i : ℕ) (d : List ℕ) → (i ≡ p → ⊥) → slice_get images i ≡ Some d → IsPlace (nums i) (wins i) d) (at : slice_get images p ≡ Some c) (here : IsPlace n ws c) where
   pub swapped : (i : ℕ) (d : List ℕ) → slice_get images i ≡ Some d → IsPlace (swap p n nums i) (swap p ws wins i) d
   swapped i d found =
       by_place p i (λ k. slice_get images k ≡ Some d → IsPlace (swap p n nums k) (swap p ws wins k) d)

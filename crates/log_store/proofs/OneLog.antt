@@ -43,8 +43,8 @@ one_order from (i ∷ is) [] a b to back = absurd (to i (inl refl))
 one_order from (i ∷ is) (j ∷ js) a b to back =
     let same = first_one from i j is js a.0 b.0 (to i (inl refl)) (back j (inl refl)) in
     let rest = one_order from is js a.1 b.1
-        (λ k m. ⊎_elim (λ e. absurd (not_before from i (subst (λ n. IsBefore from i n) (e ∙ sym same) (before_in from i k is a.0 m)))) (λ n. n) (to k (inr m)))
-        (λ k m. ⊎_elim (λ e. absurd (not_before from j (subst (λ n. IsBefore from j n) (e ∙ same) (before_in from j k js b.0 m)))) (λ n. n) (back k (inr m))) in
+    (λ k m. ⊎_elim (λ e. absurd (not_before from i (subst (λ n. IsBefore from i n) (e ∙ sym same) (before_in from i k is a.0 m)))) (λ n. n) (to k (inr m)))
+    (λ k m. ⊎_elim (λ e. absurd (not_before from j (subst (λ n. IsBefore from j n) (e ∙ same) (before_in from j k js b.0 m)))) (λ n. n) (back k (inr m))) in
     λ t. same t ∷ rest t
 
 module _ (r s : ℕ → Run) (o p : List ℕ) (images : List (List ℕ)) (a : HoldRuns r o images) (b : HoldRuns s p images) where
@@ -94,9 +94,11 @@ module _ (images : List (List ℕ)) where
       let order : b.order ≡ a.order = same_order b.runs a.runs b.order a.order images b.hold a.hold in
       let same = same_run a.runs b.runs a.order b.order images a.hold b.hold in
       let joined : AreJoined (begin b.runs) (ending b.runs) low2 a.order high2 = subst (λ (o : List ℕ). AreJoined (begin b.runs) (ending b.runs) low2 o high2) order b.joined in
-      let lows = low_same a.runs b.runs low low2 high high2 a.order same a.empty (λ e. b.empty (order ∙ e)) a.joined joined in
-      (lows, high_same a.runs b.runs low low2 high high2 a.order same lows a.joined joined,
-      a.windows ∙ windows_same a.runs b.runs a.order same ∙ ap (windows_of (λ i. (b.runs i).windows)) (sym order) ∙ sym b.windows)
+      let lows = low_same a.runs b.runs low low2 high high2 a.order same a.empty (λ e. b.empty (order ∙ e)) a.joined joined in (
+        lows,
+        high_same a.runs b.runs low low2 high high2 a.order same lows a.joined joined,
+        a.windows ∙ windows_same a.runs b.runs a.order same ∙ ap (windows_of (λ i. (b.runs i).windows)) (sym order) ∙ sym b.windows,
+      )
 
   -- ---- never both
 
@@ -128,10 +130,10 @@ module _ (images : List (List ℕ)) where
   never_bad low high segment place ws a bad =
       ⊎_elim (λ b. run_good a.runs a.order a.hold segment place b.bytes b.stands b.bad)
       (λ b.
-        let h = b.1 in
-        let order : a.order ≡ h.order = same_order a.runs h.runs a.order h.order images a.hold h.hold in
-        let same = same_run a.runs h.runs a.order h.order images a.hold h.hold in
-        none-some segment (sym (none_first (begin a.runs) (ending a.runs) low high a.order a.joined) ∙ first_same a.runs h.runs a.order same ∙ ap (first_apart (begin h.runs) (ending h.runs)) order ∙ h.apart))
+      let h = b.1 in
+      let order : a.order ≡ h.order = same_order a.runs h.runs a.order h.order images a.hold h.hold in
+      let same = same_run a.runs h.runs a.order h.order images a.hold h.hold in
+      none-some segment (sym (none_first (begin a.runs) (ending a.runs) low high a.order a.joined) ∙ first_same a.runs h.runs a.order same ∙ ap (first_apart (begin h.runs) (ending h.runs)) order ∙ h.apart))
       bad
 
   -- ---- one place
@@ -157,12 +159,12 @@ module _ (images : List (List ℕ)) where
       ⊎_elim
       (λ a. ⊎_elim (both_first segment place segment2 place2 a) (λ b. absurd (run_good b.1.runs b.1.order b.1.hold segment place a.bytes a.stands a.bad)) y)
       (λ a. ⊎_elim (λ b. absurd (run_good a.1.runs a.1.order a.1.hold segment2 place2 b.bytes b.stands b.bad))
-        (λ b.
-          let h = a.1 in
-          let k = b.1 in
-          let order : h.order ≡ k.order = same_order h.runs k.runs h.order k.order images h.hold k.hold in
-          let same = same_run h.runs k.runs h.order k.order images h.hold k.hold in
-          (same_Some segment segment2 (sym h.apart ∙ first_same h.runs k.runs h.order same ∙ ap (first_apart (begin k.runs) (ending k.runs)) order ∙ k.apart), a.0 ∙ sym b.0)) y)
+      (λ b.
+      let h = a.1 in
+      let k = b.1 in
+      let order : h.order ≡ k.order = same_order h.runs k.runs h.order k.order images h.hold k.hold in
+      let same = same_run h.runs k.runs h.order k.order images h.hold k.hold in
+      (same_Some segment segment2 (sym h.apart ∙ first_same h.runs k.runs h.order same ∙ ap (first_apart (begin k.runs) (ending k.runs)) order ∙ k.apart), a.0 ∙ sym b.0)) y)
       x
 
 -- ---- so an opening finds them

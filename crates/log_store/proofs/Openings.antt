@@ -132,11 +132,11 @@ module _ {D : Type 0} (state : D → DiskState) where
       ⊎_elim
       (λ f. record { used = λ used. absurd (not_both s.numbers.in_use used (ap (λ (n : Numbers). n.in_use) f.1.numbers)); free = λ free. f.0 })
       (λ u.
-        let seen = (stands_seen u.0 u.1 (told state s) u.3).used (ap (λ (n : Numbers). n.in_use) u.3.numbers) in
-        record {
-          used = λ used. (used_image s c u.0 u.1 (record { low = u.3.low; chained = u.3.chained; ends = u.2 }) u.3, ap (λ (n : Numbers). n.high) seen.numbers);
-          free = λ free. absurd (not_both s.numbers.in_use (ap (λ (n : Numbers). n.in_use) u.3.numbers) free);
-        })
+      let seen = (stands_seen u.0 u.1 (told state s) u.3).used (ap (λ (n : Numbers). n.in_use) u.3.numbers) in
+      record {
+        used = λ used. (used_image s c u.0 u.1 (record { low = u.3.low; chained = u.3.chained; ends = u.2 }) u.3, ap (λ (n : Numbers). n.high) seen.numbers);
+        free = λ free. absurd (not_both s.numbers.in_use (ap (λ (n : Numbers). n.in_use) u.3.numbers) free);
+      })
       h
 
   as_good : (s : SegmentParts D) (c : List ℕ) → StandsAs c (told state s) → IsGood c
@@ -226,13 +226,16 @@ module _ {D : Type 0} (state : D → DiskState) where
         let o = a.is_order in
         record {
           looks = subst (λ l. AllLook state l (disks_of ss ++ rest)) (append-nil all) (subst (λ l. AllLook state (all ++ []) (disks_of ss ++ l)) (sym h.none) (look_opened all ss [] [] h.opened tt));
-          cause = subst (λ f. IsCause state f all (disks_of ss ++ rest)) (sym a.fault_is) (λ images tell. inr (refl, record {
-            runs = λ i. record { from = floor_at ss i; windows = windows_at state ss i };
-            order = h.order;
-            hold = runs_hold all ss h.opened h.order o images tell;
-            apart = first_same (floor_at ss) (high_at ss) (λ i. end_from (floor_at ss i) (windows_at state ss i)) h.order
-                (λ i m. sym (runs_end (numbers_at ss) (windows_at state ss) h.order images o.used (covers all ss h.opened h.order o) o.sorted (below all ss h.opened h.order o images tell) (each_place all ss h.opened images tell) i m)) ∙ a.apart;
-          }));
+          cause = subst (λ f. IsCause state f all (disks_of ss ++ rest)) (sym a.fault_is) (λ images tell. inr (
+            refl,
+            record {
+              runs = λ i. record { from = floor_at ss i; windows = windows_at state ss i };
+              order = h.order;
+              hold = runs_hold all ss h.opened h.order o images tell;
+              apart = first_same (floor_at ss) (high_at ss) (λ i. end_from (floor_at ss i) (windows_at state ss i)) h.order
+                  (λ i m. sym (runs_end (numbers_at ss) (windows_at state ss) h.order images o.used (covers all ss h.opened h.order o) o.sorted (below all ss h.opened h.order o images tell) (each_place all ss h.opened images tell) i m)) ∙ a.apart;
+            },
+          ));
         }
 
     at_front : (front : List D) (d : D) (behind : List D) → slice_get (front ++ d ∷ behind) (length front) ≡ Some d
@@ -302,7 +305,7 @@ module _ {D : Type 0} (state : D → DiskState) where
 -- a log of the ends that were found
 pub store_is : {D : Type 0} (ds : List D) (ss : List (SegmentParts D)) (order : List ℕ) (floor high : ℕ) → floor ≡ first_floor (floor_at ss) order → high ≡ last_high (high_at ss) 0 order
     → ◌≡◌ {A = StoreParts D} (record { segments = ss; order = order; floor = floor; high = high; opened = ds; lost = false })
-      (record { segments = ss; order = order; floor = first_floor (floor_at ss) order; high = last_high (high_at ss) 0 order; opened = ds; lost = false })
+    (record { segments = ss; order = order; floor = first_floor (floor_at ss) order; high = last_high (high_at ss) 0 order; opened = ds; lost = false })
 store_is ds ss order floor high low top = λ i. record { segments = ss; order = order; floor = low i; high = top i; opened = ds; lost = false }
 
 -- memory ran out before the first disk was read

@@ -195,11 +195,12 @@ module _ {D : Type 0} (state : D → DiskState) (now view : StoreParts D) (seen 
       ends = subst (λ (n : Numbers). n.high ≤ scn) (numbers_before state view.segments p ch.before ch.after ch.stood) low_here_is
 
       pub drop_done : (floor : ℕ) (order : List ℕ) (x : Unit {0}) → r ≡ Ok x → floor ≡ high_at view.segments p → order ≡ more → DropsOldest state scn now (record view { segments = ss; order = order; floor = floor }) (Ok x)
-      drop_done floor order x ok floor_is order_more =
-          (subst (λ (o : StoreParts D). Drops state scn o (record view { segments = ss; order = order; floor = floor }) (Ok x)) seen
-          (subst (λ (l : List (SegmentParts D)). Drops state scn view (record view { segments = l; order = order; floor = floor }) (Ok x)) (sym ch.stands)
-          (free_done state view is scn p more order_is some ch.before ch.after ch.stood ends r ch.made floor order x ok floor_is order_more)),
-          omega (arith, ap (λ (l : List ℕ). length l) order_more, ap (λ (l : List ℕ). length l) order_is, ap (λ (s : StoreParts D). length s.order) seen))
+      drop_done floor order x ok floor_is order_more = (
+        subst (λ (o : StoreParts D). Drops state scn o (record view { segments = ss; order = order; floor = floor }) (Ok x)) seen
+            (subst (λ (l : List (SegmentParts D)). Drops state scn view (record view { segments = l; order = order; floor = floor }) (Ok x)) (sym ch.stands)
+            (free_done state view is scn p more order_is some ch.before ch.after ch.stood ends r ch.made floor order x ok floor_is order_more)),
+        omega (arith, ap (λ (l : List ℕ). length l) order_more, ap (λ (l : List ℕ). length l) order_is, ap (λ (s : StoreParts D). length s.order) seen),
+      )
 
       pub drop_is : (floor : ℕ) (order : List ℕ) (x : Unit {0}) → r ≡ Ok x → floor ≡ high_at view.segments p → order ≡ more → IsStore state (record view { segments = ss; order = order; floor = floor })
       drop_is floor order x ok floor_is order_more =

@@ -10,7 +10,8 @@ use Rattle.log_store.specs.Log.{HoldLog}
 -- a crash now leaves such bytes of each disk but the one of this number
 pub record LeaveBeside {D : Type 0} (state : D → DiskState) (place : ℕ) (disks : List D) (images : List (List ℕ)) : Type 0 where
   pub many : length images ≡ length disks
-  pub each : (i : ℕ) (d : D) (c : List ℕ) → (i ≡ place → ⊥) → slice_get disks i ≡ Some d → slice_get images i ≡ Some c → may_leave (state d).clock c
+  pub each : (i : ℕ) (d : D) (c : List ℕ) → (i ≡ place → ⊥) → slice_get disks i ≡ Some d → slice_get images i ≡ Some c
+      → may_leave (state d).clock c
 
 -- a crash at any moment while the disk of this number moves on leaves bytes of which P is true
 pub record Moves {D : Type 0} (state : D → DiskState) (P : List (List ℕ) → Type 0) (place : ℕ) (old : List D) (new : List D) : Type 0 where
@@ -31,12 +32,15 @@ pub data Passes {D : Type 0} (state : D → DiskState) (P : List (List ℕ) → 
   Goes : {olds mids news : List D} → (place : ℕ) → Passes state P olds mids → Moves state P place mids news → Passes state P olds news
 
 -- first these moments, and then those
-pub passes_then : {D : Type 0} (state : D → DiskState) (P : List (List ℕ) → Type 0) (olds mids news : List D) → Passes state P olds mids → Passes state P mids news → Passes state P olds news
+pub passes_then : {D : Type 0} (state : D → DiskState) (P : List (List ℕ) → Type 0) (olds mids news : List D) → Passes state P olds mids
+    → Passes state P mids news → Passes state P olds news
 passes_then state P olds mids news p (Passes.Stays now) = p
-passes_then state P olds mids news p (Passes.Goes {mids = between} place q moves) = Passes.Goes place (passes_then state P olds mids between p q) moves
+passes_then state P olds mids news p (Passes.Goes {mids = between} place q moves) =
+    Passes.Goes place (passes_then state P olds mids between p q) moves
 
 -- what has P has Q
-moves_weaker : {D : Type 0} (state : D → DiskState) (P Q : List (List ℕ) → Type 0) (place : ℕ) (old new : List D) → ((images : List (List ℕ)) → P images → Q images) → Moves state P place old new → Moves state Q place old new
+moves_weaker : {D : Type 0} (state : D → DiskState) (P Q : List (List ℕ) → Type 0) (place : ℕ) (old new : List D)
+    → ((images : List (List ℕ)) → P images → Q images) → Moves state P place old new → Moves state Q place old new
 moves_weaker state P Q place old new so m = record {
   before = m.before;
   after = m.after;
@@ -45,9 +49,11 @@ moves_weaker state P Q place old new so m = record {
   left = λ images c beside at left. so images (m.left images c beside at left);
 }
 
-pub passes_weaker : {D : Type 0} (state : D → DiskState) (P Q : List (List ℕ) → Type 0) (olds news : List D) → ((images : List (List ℕ)) → P images → Q images) → Passes state P olds news → Passes state Q olds news
+pub passes_weaker : {D : Type 0} (state : D → DiskState) (P Q : List (List ℕ) → Type 0) (olds news : List D)
+    → ((images : List (List ℕ)) → P images → Q images) → Passes state P olds news → Passes state Q olds news
 passes_weaker state P Q olds news so (Passes.Stays now) = Passes.Stays (λ images left. so images (now images left))
-passes_weaker state P Q olds news so (Passes.Goes {mids = between} place p moves) = Passes.Goes place (passes_weaker state P Q olds between so p) (moves_weaker state P Q place between news so moves)
+passes_weaker state P Q olds news so (Passes.Goes {mids = between} place p moves) =
+    Passes.Goes place (passes_weaker state P Q olds between so p) (moves_weaker state P Q place between news so moves)
 
 -- ---- a part of a list
 
@@ -60,7 +66,8 @@ pub record HoldPart (ws : List Span) (b : Bounds) (images : List (List ℕ)) : T
   pub part_is : part ≡ windows_between low high ws
   pub holds : HoldLog low high part images
 
-pub part_weaker : (ws vs : List Span) (b c : Bounds) → Weakens ws vs b c → (images : List (List ℕ)) → HoldPart ws b images → HoldPart vs c images
+pub part_weaker : (ws vs : List Span) (b c : Bounds) → Weakens ws vs b c → (images : List (List ℕ)) → HoldPart ws b images
+    → HoldPart vs c images
 part_weaker ws vs b c w images p = record {
   low = p.low;
   high = p.high;

@@ -30,7 +30,8 @@ pub record OpenedSome {D : Type 0} (state : D → DiskState) (all : List D) (ss 
   pub opened : AllOpened state front ss
 
 -- one more was opened
-pub record OpensOne {D : Type 0} (state : D → DiskState) (old : List D) (ss : List (SegmentParts D)) (new : List D) (now : List (SegmentParts D)) : Type 0 where
+pub record OpensOne {D : Type 0} (state : D → DiskState) (old : List D) (ss : List (SegmentParts D)) (new : List D) (now : List (SegmentParts D))
+    : Type 0 where
   pub disk : D
   pub segment : SegmentParts D
   pub parts : old ≡ disk ∷ new
@@ -38,7 +39,8 @@ pub record OpensOne {D : Type 0} (state : D → DiskState) (old : List D) (ss : 
   pub opened : Opened (state disk) (told state segment)
 
 -- one was not, and stays in its place
-pub record OpensNone {D : Type 0} (state : D → DiskState) (fault : OpenLog) (old : List D) (ss : List (SegmentParts D)) (new : List D) (now : List (SegmentParts D)) : Type 0 where
+pub record OpensNone {D : Type 0} (state : D → DiskState) (fault : OpenLog) (old : List D) (ss : List (SegmentParts D))
+    (new : List D) (now : List (SegmentParts D)) : Type 0 where
   pub disk : D
   pub back : D
   pub behind : List D
@@ -49,7 +51,8 @@ pub record OpensNone {D : Type 0} (state : D → DiskState) (fault : OpenLog) (o
   pub failed : NotOpened cause (state disk) (state back)
   pub fault_is : fault ≡ fault_at (length ss) cause
 
-abbrev pub OpensNext : {D : Type 0} → (D → DiskState) → List D → List (SegmentParts D) → List D → List (SegmentParts D) → Result Unit OpenLog → Type 0
+abbrev pub OpensNext : {D : Type 0} → (D → DiskState) → List D → List (SegmentParts D) → List D → List (SegmentParts D) → Result Unit OpenLog
+    → Type 0
 OpensNext state old ss new now (Ok x) = OpensOne state old ss new now
 OpensNext state old ss new now (Err fault) = OpensNone state fault old ss new now
 
@@ -82,17 +85,20 @@ OrdersAll ss order (Ok x) = AreOrdered ss order
 OrdersAll ss order (Err fault) = AreApart fault ss order
 
 -- all disks were opened and their segments follow each other, or not, for one of these causes
-pub record OpensInOrder {D : Type 0} (state : D → DiskState) (all : List D) (ss : List (SegmentParts D)) (order : List ℕ) (rest : List D) : Type 0 where
+pub record OpensInOrder {D : Type 0} (state : D → DiskState) (all : List D) (ss : List (SegmentParts D)) (order : List ℕ) (rest : List D)
+    : Type 0 where
   pub none : rest ≡ []
   pub opened : AllOpened state all ss
   pub ordered : AreOrdered ss order
 
-pub record OpensApart {D : Type 0} (state : D → DiskState) (fault : OpenLog) (all : List D) (ss : List (SegmentParts D)) (rest : List D) : Type 0 where
+pub record OpensApart {D : Type 0} (state : D → DiskState) (fault : OpenLog) (all : List D) (ss : List (SegmentParts D)) (rest : List D)
+    : Type 0 where
   pub none : rest ≡ []
   pub opened : AllOpened state all ss
   pub order : List ℕ
   pub apart : AreApart fault ss order
 
-abbrev pub OpensOrdered : {D : Type 0} → (D → DiskState) → List D → List (SegmentParts D) → List ℕ → List D → Result Unit OpenLog → Type 0
+abbrev pub OpensOrdered : {D : Type 0} → (D → DiskState) → List D → List (SegmentParts D) → List ℕ → List D → Result Unit OpenLog
+    → Type 0
 OpensOrdered state all ss order rest (Ok x) = OpensInOrder state all ss order rest
 OpensOrdered state all ss order rest (Err fault) = StopsAt state fault all ss rest ⊎ OpensApart state fault all ss rest

@@ -57,7 +57,8 @@ windows_of windows order = flat_map windows order
 
 -- bytes of disks are segments: the disks of these numbers hold these runs, in order, and all others a segment that isn't in use
 pub record HoldRuns (runs : ℕ → Run) (order : List ℕ) (images : List (List ℕ)) : Type 0 where
-  pub used : (i : ℕ) → IsIn i order → (bytes : List ℕ) × (slice_get images i ≡ Some bytes) × HoldsInUse (runs i).from (runs i).windows bytes
+  pub used : (i : ℕ) → IsIn i order → (bytes : List ℕ) × (slice_get images i ≡ Some bytes)
+      × HoldsInUse (runs i).from (runs i).windows bytes
   pub free : (i : ℕ) (bytes : List ℕ) → slice_get images i ≡ Some bytes → (IsIn i order → ⊥) → IsFree bytes
   pub sorted : AreInOrder (λ i. (runs i).from) order
 

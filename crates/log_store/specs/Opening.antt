@@ -79,5 +79,7 @@ IsNotBad opening.NoMemory = Unit {0}
 
 -- where the disks tell bytes that are a log, it is opened, unless a disk fails or memory runs out
 abbrev pub FindsSame : {D : Type 0} → (D → DiskState) → List D → Result (StoreParts D) (OpenLog × Vec D Global) → Type 0
-FindsSame state disks (Ok log) = (images : List (List ℕ)) (low high : ℕ) (ws : List Span) → AllTell state disks images → HoldLog low high ws images → IsLogOf low high ws (log_of state log)
-FindsSame state disks (Err x) = (images : List (List ℕ)) (low high : ℕ) (ws : List Span) → AllTell state disks images → HoldLog low high ws images → IsNotBad x.0
+FindsSame state disks (Ok log) = (images : List (List ℕ)) (low high : ℕ) (ws : List Span) → AllTell state disks images
+    → HoldLog low high ws images → IsLogOf low high ws (log_of state log)
+FindsSame state disks (Err x) = (images : List (List ℕ)) (low high : ℕ) (ws : List Span) → AllTell state disks images
+    → HoldLog low high ws images → IsNotBad x.0

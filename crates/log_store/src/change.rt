@@ -23,7 +23,8 @@ pub(crate) fn append_at<D: Disk>(
     requires in_use { (numbers_at segments.old.items place).in_use ≡ true }
     requires chained { window.now.prev ≡ (numbers_at segments.old.items place).high }
     requires full { 0 < length window.now.changes }
-    ensures { Changes (λ a b. Appends window.now (told D.state a) (told D.state b) result × OnRefused result (b ≡ a)) place segments.old.items segments.new.items }
+    ensures { Changes (λ a b. Appends window.now (told D.state a) (told D.state b) result × OnRefused result (b ≡ a)) place
+        segments.old.items segments.new.items }
 {
     segments[place].append(alloc, window)
 }

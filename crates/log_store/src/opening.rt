@@ -108,10 +108,7 @@ fn open_all<D: Disk + Drop>(
 }
 
 // The order of the segments in use, where their windows follow each other.
-fn ordered<D: Disk + Drop>(
-    segments: &[Segment<D>],
-    order: &mut Vec<usize>,
-) -> Result<(), OpenLog>
+fn ordered<D: Disk + Drop>(segments: &[Segment<D>], order: &mut Vec<usize>) -> Result<(), OpenLog>
     requires none { order.old.items ≡ [] }
     requires room { length segments.now ≤ vec_capacity order.old }
     requires few { length segments.now ≤ 16 }

@@ -39,10 +39,24 @@ impl<D: Disk> Model for LogStore<D> {
 
     ghost Value = { StoreParts D };
 
-    ghost view = { λ s. record { segments = s.segments.items; order = s.order.items; floor = s.floor; high = s.high; opened = s.opened.value.items; lost = s.lost } };
+    ghost view = { λ s. record {
+      segments = s.segments.items;
+      order = s.order.items;
+      floor = s.floor;
+      high = s.high;
+      opened = s.opened.value.items;
+      lost = s.lost;
+    } };
 
     ghost invariant = { λ s.
-        IsStore D.state (record { segments = s.segments.items; order = s.order.items; floor = s.floor; high = s.high; opened = s.opened.value.items; lost = s.lost })
+        IsStore D.state (record {
+          segments = s.segments.items;
+          order = s.order.items;
+          floor = s.floor;
+          high = s.high;
+          opened = s.opened.value.items;
+          lost = s.lost;
+        })
         × (s.room.items ≡ []) × (length s.segments.items ≤ vec_capacity s.room) };
 }
 
@@ -124,12 +138,7 @@ impl<D: Disk + Drop> LogStore<D> {
 
 impl<D: Disk> LogStore<D> {
     // Appends a window to the last segment, which has room for it.
-    fn append_last(
-        &mut self,
-        alloc: Global,
-        place: usize,
-        window: &Window,
-    ) -> Result<(), LogFault>
+    fn append_last(&mut self, alloc: Global, place: usize, window: &Window) -> Result<(), LogFault>
         requires roomy { if_roomy self.old.segments (span_size window.now) (last_place self.old.order) ≡ Some place }
         requires chained { window.now.prev ≡ self.old.high }
         requires full { 0 < length window.now.changes }
@@ -180,12 +189,7 @@ impl<D: Disk> LogStore<D> {
     }
 
     // Reads the oldest window behind an SCN of a segment, which is the first that has one.
-    fn read_at(
-        &mut self,
-        alloc: Global,
-        place: usize,
-        scn: u64,
-    ) -> Result<Option<Window>, LogFault>
+    fn read_at(&mut self, alloc: Global, place: usize, scn: u64) -> Result<Option<Window>, LogFault>
         requires place { place_after (high_at self.old.segments) scn self.old.order ≡ Some place }
         requires low { self.old.floor ≤ scn }
         ensures { Reads D.state scn self.old self.new result }
@@ -252,7 +256,8 @@ impl<D: Disk> WindowLog for LogStore<D> {
 
     ghost passes = { passes D.state };
 
-    ghost weakens = { λ ws vs b c old new w p. passes_weaker (λ s. D.state s.disk) (HoldPart ws b) (HoldPart vs c) old.segments new.segments (part_weaker ws vs b c w) p };
+    ghost weakens = { λ ws vs b c old new w p.
+        passes_weaker (λ s. D.state s.disk) (HoldPart ws b) (HoldPart vs c) old.segments new.segments (part_weaker ws vs b c w) p };
 
     ghost passes_on = { λ ws b old now new p q. passes_then (λ s. D.state s.disk) (HoldPart ws b) old.segments now.segments new.segments p q };
 
@@ -265,7 +270,8 @@ impl<D: Disk> WindowLog for LogStore<D> {
     }
 
     fn is_full(&self, size: u64) -> bool {
-        roomy_last(&self.segments, &self.order, size).is_none() && free_place(&self.segments).is_none()
+        roomy_last(&self.segments, &self.order, size).is_none()
+            && free_place(&self.segments).is_none()
     }
 
     fn append(&mut self, alloc: Global, window: &Window) -> Result<(), LogFault> {

@@ -20,19 +20,25 @@ pub begin_at-requires-clause-free : goal.begin_at-requires-clause-free
 begin_at-requires-clause-free g c = free_unused c.self.inside.segments.items c.in-Some.place (sym (c.free_place.ensures ∙ ap free_place c.deref.ensures.value) ∙ c.in-Some.is)
 
 pub invariant_of-self-in-Ok-begin_at : goal.invariant_of-self-in-Ok-begin_at
-invariant_of-self-in-Ok-begin_at g c =
-    (next_is g.D.Disk.state _ _ c.self.view_is c.self.invariant.0 c.args.window.now c.scn-scn.ensures.fits c.requires.chained c.requires.full c.requires.none c.in-Some.place (sym (c.free_place.ensures ∙ ap free_place c.deref.ensures.value) ∙ c.in-Some.is) c.begin_at.result c.begin_at.new.segments.items c.begin_at.ensures c.scn-scn.result c.push.new.order.items _ c.in-Ok-begin_at.is c.scn-scn.ensures.value (c.push.ensures ∙ ap (λ (o : List ℕ). o ++ c.in-Some.place ∷ []) c.make_room.ensures.items),
-    c.self.invariant.1, omega (arith, as_many _ c.in-Some.place c.self.inside.segments.items c.begin_at.new.segments.items c.begin_at.ensures, c.self.invariant.2))
+invariant_of-self-in-Ok-begin_at g c = (
+  next_is g.D.Disk.state _ _ c.self.view_is c.self.invariant.0 c.args.window.now c.scn-scn.ensures.fits c.requires.chained c.requires.full c.requires.none c.in-Some.place (sym (c.free_place.ensures ∙ ap free_place c.deref.ensures.value) ∙ c.in-Some.is) c.begin_at.result c.begin_at.new.segments.items c.begin_at.ensures c.scn-scn.result c.push.new.order.items _ c.in-Ok-begin_at.is c.scn-scn.ensures.value (c.push.ensures ∙ ap (λ (o : List ℕ). o ++ c.in-Some.place ∷ []) c.make_room.ensures.items),
+  c.self.invariant.1,
+  omega (arith, as_many _ c.in-Some.place c.self.inside.segments.items c.begin_at.new.segments.items c.begin_at.ensures, c.self.invariant.2),
+)
 
 pub invariant_of-self-in-Err-Failed : goal.invariant_of-self-in-Err-Failed
-invariant_of-self-in-Err-Failed g c =
-    (subst (λ (o : List ℕ). IsStore g.D.Disk.state (record { segments = c.begin_at.new.segments.items; order = o; floor = c.self.inside.floor; high = c.self.inside.high; opened = c.self.inside.opened.value.items; lost = true })) (sym c.make_room.ensures.items) (next_lost g.D.Disk.state _ _ c.self.view_is c.self.invariant.0 c.args.window.now c.scn-scn.ensures.fits c.requires.chained c.requires.full c.requires.none c.in-Some.place (sym (c.free_place.ensures ∙ ap free_place c.deref.ensures.value) ∙ c.in-Some.is) c.begin_at.result c.begin_at.new.segments.items c.begin_at.ensures),
-    c.self.invariant.1, omega (arith, as_many _ c.in-Some.place c.self.inside.segments.items c.begin_at.new.segments.items c.begin_at.ensures, c.self.invariant.2))
+invariant_of-self-in-Err-Failed g c = (
+  subst (λ (o : List ℕ). IsStore g.D.Disk.state (record { segments = c.begin_at.new.segments.items; order = o; floor = c.self.inside.floor; high = c.self.inside.high; opened = c.self.inside.opened.value.items; lost = true })) (sym c.make_room.ensures.items) (next_lost g.D.Disk.state _ _ c.self.view_is c.self.invariant.0 c.args.window.now c.scn-scn.ensures.fits c.requires.chained c.requires.full c.requires.none c.in-Some.place (sym (c.free_place.ensures ∙ ap free_place c.deref.ensures.value) ∙ c.in-Some.is) c.begin_at.result c.begin_at.new.segments.items c.begin_at.ensures),
+  c.self.invariant.1,
+  omega (arith, as_many _ c.in-Some.place c.self.inside.segments.items c.begin_at.new.segments.items c.begin_at.ensures, c.self.invariant.2),
+)
 
 pub invariant_of-self-in-Err-NoMemory : goal.invariant_of-self-in-Err-NoMemory
-invariant_of-self-in-Err-NoMemory g c =
-    (subst (λ (o : List ℕ). IsStore g.D.Disk.state (record { segments = c.begin_at.new.segments.items; order = o; floor = c.self.inside.floor; high = c.self.inside.high; opened = c.self.inside.opened.value.items; lost = c.self.inside.lost })) (sym c.make_room.ensures.items) (next_kept_is g.D.Disk.state _ _ c.self.view_is c.self.invariant.0 c.args.window.now c.scn-scn.ensures.fits c.requires.chained c.requires.full c.requires.none c.in-Some.place (sym (c.free_place.ensures ∙ ap free_place c.deref.ensures.value) ∙ c.in-Some.is) c.begin_at.result c.begin_at.new.segments.items c.begin_at.ensures (c.in-Err-NoMemory.is ∙ ap Err c.in-Err-NoMemory.field-0-is)),
-    c.self.invariant.1, omega (arith, as_many _ c.in-Some.place c.self.inside.segments.items c.begin_at.new.segments.items c.begin_at.ensures, c.self.invariant.2))
+invariant_of-self-in-Err-NoMemory g c = (
+  subst (λ (o : List ℕ). IsStore g.D.Disk.state (record { segments = c.begin_at.new.segments.items; order = o; floor = c.self.inside.floor; high = c.self.inside.high; opened = c.self.inside.opened.value.items; lost = c.self.inside.lost })) (sym c.make_room.ensures.items) (next_kept_is g.D.Disk.state _ _ c.self.view_is c.self.invariant.0 c.args.window.now c.scn-scn.ensures.fits c.requires.chained c.requires.full c.requires.none c.in-Some.place (sym (c.free_place.ensures ∙ ap free_place c.deref.ensures.value) ∙ c.in-Some.is) c.begin_at.result c.begin_at.new.segments.items c.begin_at.ensures (c.in-Err-NoMemory.is ∙ ap Err c.in-Err-NoMemory.field-0-is)),
+  c.self.invariant.1,
+  omega (arith, as_many _ c.in-Some.place c.self.inside.segments.items c.begin_at.new.segments.items c.begin_at.ensures, c.self.invariant.2),
+)
 
 pub returns-in-Ok-begin_at : goal.returns-in-Ok-begin_at
 returns-in-Ok-begin_at g c = next_done g.D.Disk.state _ _ c.self.view_is c.self.invariant.0 c.args.window.now c.scn-scn.ensures.fits c.requires.chained c.requires.full c.requires.none c.in-Some.place (sym (c.free_place.ensures ∙ ap free_place c.deref.ensures.value) ∙ c.in-Some.is) c.begin_at.result c.begin_at.new.segments.items c.begin_at.ensures c.scn-scn.result c.push.new.order.items _ c.in-Ok-begin_at.is c.scn-scn.ensures.value (c.push.ensures ∙ ap (λ (o : List ℕ). o ++ c.in-Some.place ∷ []) c.make_room.ensures.items)
