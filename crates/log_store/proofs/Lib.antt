@@ -1,0 +1,17 @@
+pub mod Firsts
+pub mod Orders
+pub mod Seens
+pub mod Holdings
+pub mod Places
+pub mod Parts
+pub mod Resting
+pub mod Growing
+pub mod Appending
+pub mod Beginning
+pub mod Begun
+pub mod Freeing
+pub mod Finding
+pub mod Views
+pub mod Joinings
+pub mod Openings
+pub mod OneLog

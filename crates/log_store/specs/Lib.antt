@@ -1,0 +1,10 @@
+pub mod Log
+pub mod Crash
+pub mod Store
+pub mod Seen
+pub mod Order
+pub mod Opening
+pub mod Steps
+pub mod Joining
+pub mod Change
+pub mod First
