@@ -5,3 +5,6 @@ pub mod Comings
 pub mod Firsts
 pub mod Heads
 pub mod Askings
+pub mod Sendings
+pub mod Turnings
+pub mod Servings

@@ -6,3 +6,6 @@ pub mod Inbox
 pub mod Requests
 pub mod Replies
 pub mod Asking
+pub mod Talks
+pub mod Sent
+pub mod Turns

@@ -13,9 +13,14 @@ mod query;
 mod reply;
 mod request;
 mod route;
+mod sending;
+mod service;
+mod serving;
 
 pub use fault::RequestFault;
 pub use inbox::Inbox;
 pub use reply::{Refused, append_reply_head, write_refusal, write_reply_head};
 pub use request::{Request, read_request};
 pub use route::Side;
+pub use service::{ServeEnd, Service, Unanswered};
+pub use serving::serve;

@@ -2,6 +2,7 @@ ghost use Rattle.std.specs.Prelude.{◌≡◌, ◌+◌, ◌≤◌, ◌<◌, ◌+
 ghost use Rattle.std.specs.Io.KnownBytes.{Appends};
 ghost use Rattle.bus_types.specs.Causes.{HasCause};
 ghost use Rattle.bus_io.specs.Bytes.{RoomLeft};
+ghost use Rattle.bus_http.specs.Talks.{status_of};
 ghost use Rattle.bus_http.specs.Replies.{reply_front, head_close, reply_head, refusal};
 
 use bus_io::{Sink, WriteFault, write_all};
@@ -21,6 +22,21 @@ pub enum Refused {
     HeadTooLarge,
     /// 500: what answers has failed.
     ServerError,
+}
+
+impl Refused {
+    /// Its status.
+    pub fn status(self) -> u16
+        ensures { result ≡ status_of self }
+    {
+        match self {
+            Refused::BadRequest => 400,
+            Refused::NotFound => 404,
+            Refused::MethodNotAllowed => 405,
+            Refused::HeadTooLarge => 431,
+            Refused::ServerError => 500,
+        }
+    }
 }
 
 // The most bytes of a reply's head.
