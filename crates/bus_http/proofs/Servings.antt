@@ -1,12 +1,14 @@
 -- Turns one after another are a talk.
-use Rattle.std.proofs.Common.{◌≡◌, ℕ, ◌+◌, ◌<◌, inl, Bool, lit<, List, [], ◌∷◌, ◌++◌, Option, Some, None, refl, sym, ap, subst, append-nil, append_assoc}
+use Rattle.std.proofs.Common.{◌≡◌, ◌∙◌, ℕ, ◌+◌, ◌<◌, inl, arith, Bool, true, false, true≢false, lit<, List, [], ◌∷◌, ◌++◌, Option, Some, None, refl, sym, ap, subst, append-nil, append_assoc}
 use Rattle.std.proofs.KnownBytes.{Appends-trans, Consumes-trans}
 use Rattle.std.specs.Io.KnownBytes.{Consumes, Appends}
 use Rattle.bus_wire.specs.declared.ask.Ask.{Ask}
 use Rattle.bus_http.specs.declared.route.Side.{Side}
 use Rattle.bus_http.specs.declared.service.ServeEnd.{ServeEnd}
-use Rattle.bus_http.specs.declared.service.ServeEnd.TheVariants.{TooMany, NoMemory}
-use Rattle.bus_http.specs.Talks.{most_answers, Talked, Served}
+use Rattle.bus_http.specs.declared.service.ServeEnd.TheVariants.{BadRequest, TooMany, NoMemory}
+use Rattle.bus_http.specs.declared.reply.Refused.{Refused}
+use Rattle.bus_http.specs.declared.reply.Refused.TheVariants.{BadRequest as Bad, NotFound, MethodNotAllowed, HeadTooLarge, ServerError}
+use Rattle.bus_http.specs.Talks.{Refuses, IsClosing, Where, status_of, most_answers, Turn, Talks, Talked, Served}
 use Rattle.bus_http.specs.Turns.{GoesOn, Turned}
 
 stays_appended : (o : Option (List ℕ)) → Appends o o []
@@ -93,3 +95,27 @@ module _ {State : Type 0} (side : Side) (may : State → State → Ask → List 
     written = stays_appended w;
     talk = ([], (lit< tt, refl, inl refl));
   }
+
+  never_closing : (close : Bool) (A B : Type 0) → (A → ⊥) → (B → ⊥) → Where close A B → ⊥
+  never_closing true A B a b w = a w
+  never_closing false A B a b w = b w
+
+  -- what is sure never fails
+  never_500 : (s t : State) (count : ℕ) (got : List ℕ) (left : Option (List ℕ)) (said : List ℕ) (turns : List (Turn State)) → sure ≡ true
+      → Talks side may keeps sure s t count got left said (BadRequest 500) turns → ⊥
+  never_500 s t count got left said [] certain talk = refuses talk.1.0 talk.1.1 talk.1.3
+    where
+      refuses : (refused : Refused) → Refuses side may keeps sure s t got left refused → 500 ≡ status_of refused → ⊥
+      refuses Bad r e = absurd (omega (arith, e))
+      refuses NotFound r e = absurd (omega (arith, e))
+      refuses MethodNotAllowed r e = absurd (omega (arith, e))
+      refuses HeadTooLarge r e = absurd (omega (arith, e))
+      refuses ServerError r e = true≢false (sym certain ∙ r.unsure)
+  never_500 s t count got left said (turn ∷ turns) certain talk =
+      never_closing turn.request.close (IsClosing side may keeps sure turn.state t talk.1.1 (BadRequest 500) turns) _ (λ w. cc w.closed)
+      (λ w. never_500 turn.state t (count + 1) talk.1.0 left talk.1.1 turns certain w) talk.1.5
+
+  pub surely_served : (s t : State) (g h l m w v : Option (List ℕ)) (end : ServeEnd) → Served side may keeps sure s t g h l m w v end → sure ≡ true → end ≡ BadRequest 500 → ⊥
+  surely_served s t g h l m w v end served certain is =
+      let talk : Talked side may keeps sure s t 0 served.got m served.said (BadRequest 500) = subst (λ e. Talked side may keeps sure s t 0 served.got m served.said e) is served.talk in
+      never_500 s t 0 served.got m served.said talk.0 certain talk.1

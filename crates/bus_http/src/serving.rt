@@ -1,4 +1,4 @@
-ghost use Rattle.std.specs.Prelude.{◌≡◌, ◌≤◌, IfSome};
+ghost use Rattle.std.specs.Prelude.{◌≡◌, ◌≤◌, true, IfSome};
 ghost use Rattle.bus_types.specs.Causes.{Rose};
 ghost use Rattle.bus_http.specs.Route.{IsAskOf};
 ghost use Rattle.bus_http.specs.Talks.{refusal_of, Served, IsReadEnd, IsWriteEnd};
@@ -145,6 +145,7 @@ fn turn<S: Service, C: Conn>(
 pub fn serve<S: Service, C: Conn>(alloc: Global, service: &mut S, conn: &mut C) -> ServeEnd
     ensures served { Served S.side S.may S.keeps S.sure (S.state service.old) (S.state service.new) (C.given conn.old) (C.given conn.new) (C.left conn.old) (C.left conn.new)
         (C.written conn.old) (C.written conn.new) result }
+    ensures surely { S.sure ≡ true → result ≡ ServeEnd.BadRequest 500 → ⊥ }
     ensures later { (C.Source.faults conn.old ≤ C.Source.faults conn.new) × (C.Sink.faults conn.old ≤ C.Sink.faults conn.new) }
     ensures read { IsReadEnd result → Rose (C.Source.faults conn.old) (C.Source.faults conn.new) }
     ensures write { IsWriteEnd result → Rose (C.Sink.faults conn.old) (C.Sink.faults conn.new) }
