@@ -1,0 +1,10 @@
+pub mod Endings
+pub mod EndLaws
+pub mod Drawings
+pub mod Comings
+pub mod Firsts
+pub mod Heads
+pub mod Askings
+pub mod Sendings
+pub mod Turnings
+pub mod Servings

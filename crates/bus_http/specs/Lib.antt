@@ -1,0 +1,11 @@
+pub mod Ending
+pub mod Query
+pub mod Route
+pub mod Head
+pub mod Inbox
+pub mod Requests
+pub mod Replies
+pub mod Asking
+pub mod Talks
+pub mod Sent
+pub mod Turns

@@ -1,0 +1,181 @@
+ghost use Rattle.std.specs.Prelude.{◌≡◌, [], codes, decimal, IfOk, OnOk, string_bytes};
+ghost use Rattle.form_urlencoded.specs.Form.{append_pair, extend_pairs};
+ghost use Rattle.partition_filter.specs.Spelling.{filter_text};
+ghost use Rattle.bus_types.specs.Text.{cursor_text as cursor_bytes};
+ghost use Rattle.bus_wire.specs.declared.ask.Ask.TheVariants as asks;
+ghost use Rattle.bus_http.specs.Asking.{flag_text, path_of, pairs_of, ask_text};
+
+use bus_types::{Cursor, NoMemory, cursor_text};
+use bus_wire::Ask;
+use form_urlencoded::Serializer;
+use itoa::Buffer;
+use partition_filter::Filter;
+use std::alloc::Global;
+
+// Adds a number to a form.
+fn put_number(form: &mut Serializer, name: &str, number: u64) -> Result<(), NoMemory>
+    ensures { OnOk result (form.new ≡ record form.old { form = append_pair form.old.form name.now (decimal number) }) }
+{
+    let mut digits = Buffer::new();
+    form.append_pair(name, digits.format(number))?;
+    Ok(())
+}
+
+// Adds a cursor to a form.
+fn put_cursor(alloc: Global, form: &mut Serializer, cursor: Cursor) -> Result<(), NoMemory>
+    ensures { OnOk result (form.new ≡ record form.old { form = append_pair form.old.form (codes "cursor") (cursor_bytes cursor) }) }
+{
+    let text = cursor_text(alloc, cursor)?;
+    form.append_pair("cursor", text.as_str())?;
+    Ok(())
+}
+
+// Adds which rows are meant to a form.
+fn put_filter(alloc: Global, form: &mut Serializer, filter: &Filter) -> Result<(), NoMemory>
+    ensures { OnOk result (form.new ≡ record form.old { form = append_pair form.old.form (codes "filter") (filter_text filter.now) }) }
+{
+    let text = filter.write(alloc)?;
+    form.append_pair("filter", text.as_str())?;
+    Ok(())
+}
+
+fn flag_text(flag: bool) -> &'static str
+    ensures { result.now ≡ flag_text flag }
+{
+    if flag { "1" } else { "0" }
+}
+
+// The form of an ask for a stream.
+fn stream_form(alloc: Global, scn: u64, filter: &Filter, max: u32) -> Result<String, NoMemory>
+    ensures { IfOk result (λ form. string_bytes form ≡ extend_pairs [] (pairs_of (asks.Stream scn filter.now max))) }
+{
+    let mut form = Serializer::new(String::new(alloc));
+    put_number(&mut form, "scn", scn)?;
+    put_filter(alloc, &mut form, filter)?;
+    put_number(&mut form, "max", u64::from(max))?;
+    Ok(form.finish())
+}
+
+fn start_form(alloc: Global, since: u64, fresh: bool) -> Result<String, NoMemory>
+    ensures { IfOk result (λ form. string_bytes form ≡ extend_pairs [] (pairs_of (asks.Start since fresh))) }
+{
+    let mut form = Serializer::new(String::new(alloc));
+    put_number(&mut form, "since", since)?;
+    form.append_pair("fresh", flag_text(fresh))?;
+    Ok(form.finish())
+}
+
+fn scan_form(
+    alloc: Global,
+    start: u64,
+    cursor: Cursor,
+    filter: &Filter,
+    max: u32,
+) -> Result<String, NoMemory>
+    ensures { IfOk result (λ form. string_bytes form ≡ extend_pairs [] (pairs_of (asks.Scan start cursor filter.now max))) }
+{
+    let mut form = Serializer::new(String::new(alloc));
+    put_number(&mut form, "start", start)?;
+    put_cursor(alloc, &mut form, cursor)?;
+    put_filter(alloc, &mut form, filter)?;
+    put_number(&mut form, "max", u64::from(max))?;
+    Ok(form.finish())
+}
+
+fn target_form(alloc: Global, start: u64, atleast: u64) -> Result<String, NoMemory>
+    ensures { IfOk result (λ form. string_bytes form ≡ extend_pairs [] (pairs_of (asks.Target start atleast))) }
+{
+    let mut form = Serializer::new(String::new(alloc));
+    put_number(&mut form, "start", start)?;
+    put_number(&mut form, "atleast", atleast)?;
+    Ok(form.finish())
+}
+
+fn catchup_form(
+    alloc: Global,
+    at: u64,
+    target: u64,
+    filter: &Filter,
+    max: u32,
+) -> Result<String, NoMemory>
+    ensures { IfOk result (λ form. string_bytes form ≡ extend_pairs [] (pairs_of (asks.Catchup at target filter.now max))) }
+{
+    let mut form = Serializer::new(String::new(alloc));
+    put_number(&mut form, "at", at)?;
+    put_number(&mut form, "target", target)?;
+    put_filter(alloc, &mut form, filter)?;
+    put_number(&mut form, "max", u64::from(max))?;
+    Ok(form.finish())
+}
+
+fn delta_form(
+    alloc: Global,
+    since: u64,
+    target: u64,
+    cursor: Cursor,
+    filter: &Filter,
+    max: u32,
+) -> Result<String, NoMemory>
+    ensures { IfOk result (λ form. string_bytes form ≡ extend_pairs [] (pairs_of (asks.Delta since target cursor filter.now max))) }
+{
+    let mut form = Serializer::new(String::new(alloc));
+    put_number(&mut form, "since", since)?;
+    put_number(&mut form, "target", target)?;
+    put_cursor(alloc, &mut form, cursor)?;
+    put_filter(alloc, &mut form, filter)?;
+    put_number(&mut form, "max", u64::from(max))?;
+    Ok(form.finish())
+}
+
+// The parameters of an ask, as a form.
+fn form_of(alloc: Global, ask: &Ask) -> Result<String, NoMemory>
+    ensures { IfOk result (λ form. string_bytes form ≡ extend_pairs [] (pairs_of ask.now)) }
+{
+    match ask {
+        Ask::Stream { scn, filter, max } => stream_form(alloc, *scn, filter, *max),
+        Ask::Start { since, fresh } => start_form(alloc, *since, *fresh),
+        Ask::Scan {
+            start,
+            cursor,
+            filter,
+            max,
+        } => scan_form(alloc, *start, *cursor, filter, *max),
+        Ask::Target { start, atleast } => target_form(alloc, *start, *atleast),
+        Ask::Catchup {
+            at,
+            target,
+            filter,
+            max,
+        } => catchup_form(alloc, *at, *target, filter, *max),
+        Ask::Delta {
+            since,
+            target,
+            cursor,
+            filter,
+            max,
+        } => delta_form(alloc, *since, *target, *cursor, filter, *max),
+    }
+}
+
+fn path_of(ask: &Ask) -> &'static str
+    ensures { result.now ≡ path_of ask.now }
+{
+    match ask {
+        Ask::Stream { .. } => "/stream",
+        Ask::Start { .. } => "/start",
+        Ask::Scan { .. } => "/scan",
+        Ask::Target { .. } => "/target",
+        Ask::Catchup { .. } => "/catchup",
+        Ask::Delta { .. } => "/delta",
+    }
+}
+
+// The request of an ask.
+fn ask_text(alloc: Global, ask: &Ask) -> Result<String, NoMemory>
+    ensures { IfOk result (λ text. string_bytes text ≡ ask_text ask.now) }
+{
+    let path = path_of(ask);
+    let form = form_of(alloc, ask)?;
+    let text = format!(in alloc; "GET {path}?{form} HTTP/1.1\r\nHost: localhost\r\n\r\n")?;
+    Ok(text)
+}

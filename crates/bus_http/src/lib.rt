@@ -1,0 +1,26 @@
+//! The exchange of asks and replies over HTTP/1.1: requests read from a source, heads of replies and refusals written to a
+//! sink, and the same from the side of a client. It stands on `bus_io`, `bus_wire`, `partition_filter` and the kit's
+//! `httparse`, `form_urlencoded` and `itoa`. The layers above rely on which ask the first request of some bytes is.
+#![tactic(auto)]
+
+mod asking;
+mod coming;
+mod ending;
+mod fault;
+mod head;
+mod inbox;
+mod query;
+mod reply;
+mod request;
+mod route;
+mod sending;
+mod service;
+mod serving;
+
+pub use fault::RequestFault;
+pub use inbox::Inbox;
+pub use reply::{Refused, append_reply_head, write_refusal, write_reply_head};
+pub use request::{Request, read_request};
+pub use route::Side;
+pub use service::{ServeEnd, Service, Unanswered};
+pub use serving::serve;
