@@ -1,6 +1,7 @@
 //! Both buffers of a relay on the same windows, with evictions, filters, windows that go on at the start of a ring's block,
 //! and sinks that fail at a call, which shows in how many parts a reply goes out. What has to be printed stands in `stdout`,
-//! from outside the program. It stands on `plain_buffer`, `byte_ring` and `relay_core`.
+//! from outside the program. It stands on `plain_buffer`, `byte_ring`, `relay_core` and the
+//! generated windows of `trace_script`.
 #![tactic(auto)]
 
 mod show;
@@ -9,9 +10,9 @@ mod windows;
 use byte_ring::ByteRing;
 use plain_buffer::PlainBuffer;
 use relay_core::Buffer;
-use show::{show_answer, show_faults, show_numbers};
+use show::{show_all, show_answer, show_faults, show_numbers};
 use std::test::Fail;
-use windows::publish;
+use windows::{publish, publish_generated};
 
 fn main(rt: HostRuntime) -> Result<(), Fail> {
     run_all::<PlainBuffer>(&rt, "list")?;
@@ -22,7 +23,8 @@ fn run_all<B: Buffer + Drop>(rt: &HostRuntime, name: &str) -> Result<(), Fail> {
     println!(rt; "{name}")?;
     few_windows::<B>(rt)?;
     large_windows::<B>(rt)?;
-    many_windows::<B>(rt)
+    many_windows::<B>(rt)?;
+    generated_windows::<B>(rt)
 }
 
 // Two windows of three puts, in the parts that filters leave of them.
@@ -83,4 +85,13 @@ fn many_windows<B: Buffer + Drop>(rt: &HostRuntime) -> Result<(), Fail> {
     show_answer(rt, &buffer, 28_000, "all", 1_000_000)?;
     show_answer(rt, &buffer, 29_999, "all", 1_000_000)?;
     show_answer(rt, &buffer, 30_000, "all", 1_000_000)
+}
+
+// 10,000 windows that are made from the number 7, in replies of as many as there may be.
+fn generated_windows<B: Buffer + Drop>(rt: &HostRuntime) -> Result<(), Fail> {
+    let mut buffer = B::new(rt.alloc(), 16_777_216, 65_536)?;
+    publish_generated(rt.alloc(), &mut buffer, 7, 10_000)?;
+    show_numbers(rt, &buffer)?;
+    show_all(rt, &buffer, "all")?;
+    show_all(rt, &buffer, "0%2:0;1*")
 }

@@ -4,6 +4,7 @@ use bus_types::{Change, Key, Payload, Window};
 use relay_core::Buffer;
 use std::alloc::Global;
 use std::test::Fail;
+use trace_script::gen_window;
 
 /// Publishes the window of an SCN that puts so many rows of source 0, from key 1 on, each with so many times its key's last
 /// byte. It answers a fault where that is no window behind the newest one, and where memory runs out.
@@ -17,6 +18,25 @@ pub fn publish<B: Buffer>(
     let changes = puts_of(alloc, puts, size)?;
     let window = window(scn, buffer.tail(), changes).ok_or("a window")?;
     buffer.publish(alloc, &window)?;
+    Ok(())
+}
+
+/// Publishes so many windows that are made from a number. It answers a fault where memory runs out.
+pub fn publish_generated<B: Buffer>(
+    alloc: Global,
+    buffer: &mut B,
+    seed: u32,
+    count: u32,
+) -> Result<(), Fail> {
+    let mut state = seed;
+    for _i in 0..count {
+        let last = buffer.tail();
+        if last > 1_000_000 {
+            return Ok(());
+        }
+        let window = gen_window(alloc, &mut state, last)?;
+        buffer.publish(alloc, &window)?;
+    }
     Ok(())
 }
 

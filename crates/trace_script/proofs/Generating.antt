@@ -1,5 +1,5 @@
 -- Windows that are made from a number: they are within the limits of windows, and are made one part after the other.
-use Rattle.std.proofs.Common.{◌≡◌, ℕ, zero, suc, ◌+◌, ◌-◌, ◌*◌, ◌%◌, ◌<◌, ◌≤◌, Bool, true, false, cond, eqb, List, [], ◌∷◌, ◌++◌, append-nil, append_assoc, length, Some, None, refl, sym, ap, ◌∙◌, arith}
+use Rattle.std.proofs.Common.{◌≡◌, ℕ, zero, suc, ◌+◌, ◌-◌, ◌*◌, ◌%◌, ◌<◌, ◌≤◌, Bool, true, false, cond, eqb, List, [], ◌∷◌, ◌++◌, append-nil, append_assoc, length, Some, None, refl, sym, ap, subst, ◌∙◌, arith}
 use Rattle.std.proofs.lemmas.Bool.{or_from, ne_eqb, le-ltb, lt-leb}
 use Rattle.bus_types.specs.declared.change.Change.{Change}
 use Rattle.bus_types.specs.declared.window.WindowFault.{WindowFault}
@@ -124,3 +124,16 @@ made_faultless x last w fault low made e =
   where
     some_none : (f : WindowFault) → Some f ≡ None → ⊥
     some_none f h = absurd cc
+
+-- what is known of it at once
+pub record Facts (last : ℕ) (w : Span) : Type 0 where
+  pub chained : w.prev ≡ last
+  pub full : 0 < length w.changes
+  pub near : w.scn ≤ last + 3
+
+window_facts : (x last : ℕ) → Facts last (generated_window x last)
+unfolding generated_window
+window_facts x last = record { chained = refl; full = omega (arith, changes_many (count_of x) (next_state (next_state x))); near = omega arith }
+
+pub made_facts : (x last : ℕ) (w : Span) → w ≡ generated_window x last → Facts last w
+made_facts x last w made = subst (Facts last) (sym made) (window_facts x last)

@@ -1,4 +1,4 @@
-ghost use Rattle.std.specs.Prelude.{◌≡◌, ◌<◌, ◌≤◌, ◌^◌, [], ◌∷◌, Some, IfOk, OnOk, OnErr};
+ghost use Rattle.std.specs.Prelude.{◌≡◌, ◌+◌, ◌<◌, ◌≤◌, ◌^◌, [], ◌∷◌, length, Some, IfOk, OnOk, OnErr};
 ghost use Rattle.bus_types.specs.Window.{Span};
 ghost use Rattle.bus_types.specs.declared.change.Key.TheVariants.{Long};
 ghost use Rattle.trace_script.specs.Generated.{
@@ -105,6 +105,9 @@ pub fn worked_windows()
 pub fn gen_window(alloc: Global, state: &mut u32, last: u64) -> Result<Window, GenFault>
     requires { last ≤ 9223372036854775804 }
     ensures window { IfOk result (λ window. window ≡ generated_window state.old last) }
+    ensures chained { IfOk result (λ window. window.prev ≡ last) }
+    ensures full { IfOk result (λ window. 0 < length window.changes) }
+    ensures near { IfOk result (λ window. window.scn ≤ last + 3) }
     ensures state { OnOk result (state.new ≡ after_window state.old) }
     ensures err { OnErr result (state.new ≡ state.old) }
 {

@@ -1,5 +1,5 @@
 use Rattle.std.proofs.Common.{◌∙◌}
-use Rattle.trace_script.proofs.Generating.{window_made, state_made, made_faultless}
+use Rattle.trace_script.proofs.Generating.{window_made, state_made, made_faultless, made_facts}
 use Rattle.trace_script.proofs.generate.gen_window.Goals as goal
 
 pub unreachable-requires : goal.unreachable-requires
@@ -20,3 +20,12 @@ returns-clause-state c =
     let a = c.draw.ensures in
     let b = c.draw-2.ensures in
     state_made c.args.state.now c.draw.new.state c.draw-2.new.state c.draw.result c.draw-2.result c.changes.new.state a.state a.value b.state b.value c.in_ok-changes.ensures.state
+
+pub returns-clause-chained : goal.returns-clause-chained
+returns-clause-chained c = (made_facts c.args.state.now c.args.last _ (returns-clause-window c)).chained
+
+pub returns-clause-full : goal.returns-clause-full
+returns-clause-full c = (made_facts c.args.state.now c.args.last _ (returns-clause-window c)).full
+
+pub returns-clause-near : goal.returns-clause-near
+returns-clause-near c = (made_facts c.args.state.now c.args.last _ (returns-clause-window c)).near
