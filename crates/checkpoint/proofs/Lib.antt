@@ -1,4 +1,3 @@
 pub mod Cursors
-pub mod Printed
 pub mod ReadBack
 pub mod TextBounds

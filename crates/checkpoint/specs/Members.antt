@@ -1,50 +1,33 @@
 -- A mark as a JSON object, and the mark that a JSON object holds, whatever else stands in it.
-use Rattle.std.specs.Prelude.{ℕ, if◌then◌else◌, List, codes, bytes_eq, Option, Some, None, option_and_then}
+use Rattle.std.specs.Prelude.{if◌then◌else◌, List, [], ◌∷◌, ℕ, codes, bytes_eq, Option, Some, None}
 use Rattle.bus_types.specs.declared.row.Cursor.{Cursor}
 use Rattle.bus_types.specs.Text.{◌>>=◌, cursor_text, cursor_of}
-use Rattle.serde_json.specs.Data.{Data, number, unsigned, string, object, member, no_members}
-use Rattle.serde_json.specs.Find.{get, as_str, as_number, as_u64}
+use Rattle.serde_json.specs.Data.{Data}
+use Rattle.text_forms.specs.Objects.{Number, Text, Fixed, Member, object_data, text_at, number_at}
 use Rattle.checkpoint.specs.declared.mark.Mark.{Mark}
 use Rattle.checkpoint.specs.declared.mark.Mark.TheVariants.{Online, Delta, Snapshot, Scanned, Catchup}
 
 -- ---- from a mark
 
--- a whole number of JSON
-abbrev pub number_data : ℕ → Data
-number_data n = number (unsigned n)
-
 -- the members of each mark, in the order of their names
+abbrev pub mark_members : Mark → List Member
+mark_members (Online scn) = (codes "mode", Fixed (codes "online")) ∷ (codes "scn", Number scn) ∷ []
+mark_members (Delta since target cursor) =
+    (codes "cursor", Text (cursor_text cursor)) ∷ (codes "mode", Fixed (codes "delta")) ∷ (codes "since", Number since)
+    ∷ (codes "target", Number target) ∷ []
+mark_members (Snapshot since start top cursor) =
+    (codes "cursor", Text (cursor_text cursor)) ∷ (codes "mode", Fixed (codes "snapshot")) ∷ (codes "since", Number since)
+    ∷ (codes "start", Number start) ∷ (codes "top", Number top) ∷ []
+mark_members (Scanned since start top) =
+    (codes "mode", Fixed (codes "scanned")) ∷ (codes "since", Number since) ∷ (codes "start", Number start) ∷ (codes "top", Number top) ∷ []
+mark_members (Catchup since start target at) =
+    (codes "at", Number at) ∷ (codes "mode", Fixed (codes "catchup")) ∷ (codes "since", Number since) ∷ (codes "start", Number start)
+    ∷ (codes "target", Number target) ∷ []
+
 abbrev pub data_of : Mark → Data
-data_of (Online scn) = object (member (codes "mode") (string (codes "online")) (member (codes "scn") (number_data scn) no_members))
-data_of (Delta since target cursor) =
-    object (member (codes "cursor") (string (cursor_text cursor))
-    (member (codes "mode") (string (codes "delta"))
-    (member (codes "since") (number_data since)
-    (member (codes "target") (number_data target) no_members))))
-data_of (Snapshot since start top cursor) =
-    object (member (codes "cursor") (string (cursor_text cursor))
-    (member (codes "mode") (string (codes "snapshot"))
-    (member (codes "since") (number_data since)
-    (member (codes "start") (number_data start)
-    (member (codes "top") (number_data top) no_members)))))
-data_of (Scanned since start top) =
-    object (member (codes "mode") (string (codes "scanned"))
-    (member (codes "since") (number_data since)
-    (member (codes "start") (number_data start)
-    (member (codes "top") (number_data top) no_members))))
-data_of (Catchup since start target at) =
-    object (member (codes "at") (number_data at) (member (codes "mode") (string (codes "catchup")) (member (codes "since") (number_data since)
-    (member (codes "start") (number_data start) (member (codes "target") (number_data target) no_members)))))
+data_of mark = object_data (mark_members mark)
 
 -- ---- from an object
-
--- a member that is a text
-abbrev pub text_at : List ℕ → Data → Option (List ℕ)
-text_at name d = option_and_then as_str (get name d)
-
--- a member that is a whole number below 2 to the 64
-abbrev pub number_at : List ℕ → Data → Option ℕ
-number_at name d = option_and_then as_u64 (option_and_then as_number (get name d))
 
 -- the member `cursor`
 abbrev pub cursor_at : Data → Option Cursor

@@ -1,55 +1,19 @@
 -- Texts that are no filters, found part by part.
-use Rattle.std.proofs.Common.{◌≡◌, ℕ, ◌+◌, ◌<◌, Bool, true, false, cond, ◌&&◌, ◌==◌, nat_lt, nat_le, inl, inr, List, [], ◌∷◌, length, take, drop, Option, Some, None, option_map, Result, Ok, Err, refl, sym, ap, ◌∙◌, arith}
+use Rattle.std.proofs.Common.{◌≡◌, ℕ, ◌+◌, ◌<◌, Bool, true, false, cond, ◌&&◌, ◌==◌, nat_lt, nat_le, inl, inr, List, [], ◌∷◌, length, Option, Some, None, option_map, Result, Ok, Err, refl, sym, ap, ◌∙◌, arith}
 use Rattle.std.specs.Prelude.{is_some, IsOk}
-use Rattle.std.specs.List.{slice_split, position, position_or_len}
-use Rattle.std.proofs.lemmas.Bool.{ltb-true, ltb-false, le-leb, and_parts, and_left, and_right}
+use Rattle.std.specs.List.{slice_split}
+use Rattle.std.proofs.lemmas.Bool.{ltb-true, le-leb, and_parts, and_left, and_right}
 use Rattle.std.proofs.lemmas.Bool.Decides.{nat_tests}
-use Rattle.std.proofs.lemmas.List.Elements.{All-from_get_or}
-use Rattle.std.proofs.lemmas.List.Splits.{slice_split_none, slice_split_first}
-use Rattle.std.proofs.lemmas.List.Sums.{fails_before_first}
 use Rattle.std.proofs.lemmas.Option.{cond_some}
-use Rattle.bus_types.specs.Text.{◌>>=◌, cut_at, number_of}
+use Rattle.bus_types.specs.Text.{◌>>=◌, number_of}
 use Rattle.bus_types.proofs.Options.{bind_some, map_some, chosen}
+use Rattle.text_forms.proofs.ListForms.{map_none}
 use Rattle.partition_filter.specs.declared.rule.Keys.{Keys}
 use Rattle.partition_filter.specs.declared.rule.Rule.{Rule}
 use Rattle.partition_filter.specs.Rising.{is_above, rises}
 use Rattle.partition_filter.specs.Spelling.{most_numbers, most_rules}
 use Rattle.partition_filter.specs.Grammar.{numbers_of, listed_of, rule_from, rule_of, next_rule, with_rule, rules_on, rules_of, selection_of}
 use Rattle.partition_filter.specs.Faults.{fault_of, next_number, listed_behind}
-
--- ---- parts
-
-map_none : {A B : Type 0} (o : Option A) (f : A → B) → option_map f o ≡ None → o ≡ None
-map_none None f h = refl
-map_none (Some x) f h = cc h
-
--- a text that was cut at a byte is its first part and the parts behind it
-pub split_cut : (byte : ℕ) (text : List ℕ) (parts : List ℕ × List ℕ) → cut_at byte text ≡ Some parts → slice_split (λ b. b == byte) text ≡ parts.0 ∷ slice_split (λ b. b == byte) parts.1
-split_cut byte text parts h =
-    let p : ℕ → Bool = λ b. b == byte in
-    let first = position_or_len p text in
-    let found = map_some (position p text) (λ i. (take i text, drop (i + 1) text)) parts h in
-    elim (chosen (nat_lt first (length text)) (Some first) None (Some found.0) found.1) [
-      | inl within ↦
-          let same : first ≡ found.0 = cc (within.1) in
-          slice_split_first p text 0 (ltb-true first (length text) within.0)
-          ∙ ap (λ i. take i text ∷ slice_split p (drop (i + 1) text)) same
-          ∙ ap (λ (parts : List ℕ × List ℕ). parts.0 ∷ slice_split p parts.1) found.2
-      | inr past ↦ cc (past.1)
-    ]
-
--- one without the byte is its only part
-pub split_uncut : (byte : ℕ) (text : List ℕ) → cut_at byte text ≡ None → slice_split (λ b. b == byte) text ≡ text ∷ []
-split_uncut byte text h =
-    let p : ℕ → Bool = λ b. b == byte in
-    let first = position_or_len p text in
-    let none = map_none (position p text) (λ i. (take i text, drop (i + 1) text)) h in
-    elim (chosen (nat_lt first (length text)) (Some first) None None none) [
-      | inl within ↦ cc (within.1)
-      | inr past ↦
-          let far = ltb-false first (length text) past.0 in
-          slice_split_none p text (All-from_get_or (λ b. p b ≡ false) text 0 (λ k lt. fails_before_first p text k 0 (omega (arith, far))))
-    ]
 
 -- ---- numbers
 

@@ -1,9 +1,10 @@
 -- Numbers and rules read text by text.
-use Rattle.std.proofs.Common.{◌≡◌, ℕ, ◌+◌, ◌<◌, ◌≤◌, ◌==◌, List, [], ◌∷◌, ◌++◌, length, get_or, drop, Option, Some, None, option_map, Result, Ok, Err, refl, sym, ◌∙◌, append_assoc, arith}
+use Rattle.std.proofs.Common.{◌≡◌, ℕ, ◌+◌, ◌<◌, ◌≤◌, ◌==◌, List, [], ◌∷◌, ◌++◌, length, get_or, drop, Option, Some, None, Result, Ok, Err, refl, sym, ◌∙◌, append_assoc, arith}
 use Rattle.std.specs.List.{slice_split, join_with_byte}
 use Rattle.std.proofs.lemmas.List.{drop_more, drop_all, append-nil, length-append}
 use Rattle.std.proofs.lemmas.List.Splits.{join_with_byte-slice_split, length-slice_split}
 use Rattle.bus_types.specs.Text.{◌>>=◌, number_of}
+use Rattle.text_forms.proofs.ListForms.{with_front, with_front-cons}
 use Rattle.partition_filter.specs.declared.fault.FilterFault.{FilterFault}
 use Rattle.partition_filter.specs.declared.fault.FilterFault.TheVariants.{BadFilter, NoMemory}
 use Rattle.partition_filter.specs.declared.rule.Rule.{Rule}
@@ -11,15 +12,6 @@ use Rattle.partition_filter.specs.Grammar.{numbers_of, next_rule, with_rule, rul
 use Rattle.partition_filter.specs.Reading.{Refuses, Finds}
 
 -- ---- numbers
-
--- what was read, before what is still to read
-abbrev pub with_front : List ℕ → Option (List ℕ) → Option (List ℕ)
-with_front front read = option_map (λ numbers. front ++ numbers) read
-
-with_front-cons : (front : List ℕ) (n : ℕ) (read : Option (List ℕ))
-    → with_front (front ++ n ∷ []) read ≡ with_front front (read >>= λ numbers. Some (n ∷ numbers))
-with_front-cons front n None = refl
-with_front-cons front n (Some numbers) = rw append_assoc refl
 
 pub with_front-more : (max : ℕ) (front pushed : List ℕ) (n : ℕ) (texts : List (List ℕ)) (i : ℕ) (text : List ℕ) (total : Option (List ℕ))
     → i < length texts → get_or texts i [] ≡ text → number_of max text ≡ Some n → pushed ≡ front ++ n ∷ []

@@ -1,25 +1,13 @@
 -- Changes read word by word.
-use Rattle.std.proofs.Common.{◌≡◌, ℕ, List, [], ◌∷◌, ◌++◌, Option, Some, None, option_map, refl, sym, ap, ◌∙◌, append_assoc}
+use Rattle.std.proofs.Common.{◌≡◌, ℕ, List, [], ◌∷◌, ◌++◌, Option, Some, None, refl, sym, ap, ◌∙◌}
 use Rattle.bus_types.specs.declared.change.Change.{Change}
 use Rattle.bus_types.specs.Text.{◌>>=◌, cut_at}
+use Rattle.text_forms.proofs.ListForms.{with_front, with_front-cons}
 use Rattle.trace_script.specs.declared.fault.LineFault.{LineFault}
 use Rattle.trace_script.specs.declared.fault.LineFault.TheVariants.{BadLine, NoMemory}
 use Rattle.trace_script.specs.Reading.{Refuses}
 use Rattle.trace_script.specs.Words.{words_of, change_of, changes_of}
 use Rattle.trace_script.proofs.WordCuts.{words_cut, words_uncut}
-
--- what was read, before what is still to read
-abbrev pub with_front : List Change → Option (List Change) → Option (List Change)
-with_front front read = option_map (λ changes. front ++ changes) read
-
-pub with_front-none : (read : Option (List Change)) → with_front [] read ≡ read
-with_front-none None = refl
-with_front-none (Some changes) = refl
-
-with_front-cons : (front : List Change) (c : Change) (read : Option (List Change))
-    → with_front (front ++ c ∷ []) read ≡ with_front front (read >>= λ changes. Some (c ∷ changes))
-with_front-cons front c None = refl
-with_front-cons front c (Some changes) = rw append_assoc refl
 
 -- a word more was read
 pub with_front-more : (front pushed : List Change) (c : Change) (rest word behind : List ℕ) (total : Option (List Change))

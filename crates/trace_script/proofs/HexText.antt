@@ -9,6 +9,7 @@ use Rattle.hex.specs.declared.error.FromHexError.{FromHexError}
 use Rattle.hex.specs.Hex.{IsBytes, decode_of, decode_pairs, digit_or_error, encode_with, encode_lower, hex_digit_value, lower_digits, pair_value, value_at, ◌>>=◌}
 use Rattle.hex.proofs.HexLemmas.{decode_of-encode_lower, decode_of-even, decode_of-ok}
 use Rattle.bus_types.specs.declared.limits.TheConstants.{MAX_PAYLOAD}
+use Rattle.text_forms.specs.Form.{Form}
 use Rattle.trace_script.specs.Words.{is_lower_hex, payload_of}
 use Rattle.bus_types.proofs.Options.{bind_some, chosen}
 
@@ -63,35 +64,13 @@ encode-decode_pairs i (a ∷ b ∷ rest) bytes h lower =
 
 -- ---- payloads
 
+-- as many bytes as a payload may have
+abbrev pub IsPayload : List ℕ → Type 0
+IsPayload bytes = (length bytes ≤ MAX_PAYLOAD) × AllByRecursion (λ b. b < 256) bytes
+
 result_ok-some : (r : Result (List ℕ) FromHexError) (bytes : List ℕ) → result_ok r ≡ Some bytes → r ≡ Ok bytes
 result_ok-some (Ok x) bytes h = cc
 result_ok-some (Err e) bytes h = cc h
-
-pub payload_taken : (text bytes : List ℕ) → payload_of text ≡ Some bytes → (text ≡ encode_lower bytes) × (length bytes ≤ MAX_PAYLOAD) × IsBytes bytes
-unfolding payload_of
-payload_taken text bytes h =
-    let read = bind_some (cond (list_all is_lower_hex text) (result_ok (decode_of text)) None) _ bytes h in
-    let limit = cond_some (nat_le (length read.0) MAX_PAYLOAD) read.0 bytes read.2 in
-    elim (chosen (list_all is_lower_hex text) (result_ok (decode_of text)) None (Some read.0) read.1) [
-      | inl lower ↦
-          let ok = result_ok-some (decode_of text) read.0 lower.1 in
-          let even = decode_of-ok text read.0 ok in
-          let pairs = sym (decode_of-even text even.0) ∙ ok in
-          let back = encode-decode_pairs 0 text read.0 pairs lower.0 in
-          rw (← limit.1) (sym back, leb-true (length read.0) MAX_PAYLOAD limit.0, even.3)
-      | inr other ↦ cc other.1
-    ]
-
--- digits of bytes are lower-case
-lower_below : (d : ℕ) → d < 16 → is_lower_hex (slice_index lower_digits d) ≡ true
-lower_below d lt = agree_below_at (λ v. is_lower_hex (slice_index lower_digits v)) (λ _. true) 16 d refl lt
-
-pub all_lower-encode_lower : (bytes : List ℕ) → AllByRecursion (λ b. b < 256) bytes → list_all is_lower_hex (encode_lower bytes) ≡ true
-unfolding encode_with
-all_lower-encode_lower [] h = refl
-all_lower-encode_lower (b ∷ bs) h =
-    let small : b < 256 = h.0 in
-    rw (lower_below (b / 16) (omega arith), lower_below (b % 16) (omega arith)) (all_lower-encode_lower bs h.1)
 
 IsBytes-from_all : (bytes : List ℕ) → AllByRecursion (λ b. b < 256) bytes → IsBytes bytes
 IsBytes-from_all [] h i = lit< tt
@@ -102,7 +81,36 @@ pub all_bytes : (bytes : List ℕ) → IsBytes bytes → AllByRecursion (λ b. b
 all_bytes [] h = tt
 all_bytes (b ∷ bs) h = (h 0, all_bytes bs (λ i. h (suc i)))
 
-pub payload_again : (bytes : List ℕ) → length bytes ≤ MAX_PAYLOAD → AllByRecursion (λ b. b < 256) bytes → payload_of (encode_lower bytes) ≡ Some bytes
+payload_taken : (text bytes : List ℕ) → payload_of text ≡ Some bytes → IsPayload bytes × (text ≡ encode_lower bytes)
 unfolding payload_of
-payload_again bytes short all =
-    rw (all_lower-encode_lower bytes all, decode_of-encode_lower bytes (IsBytes-from_all bytes all), le-leb (length bytes) MAX_PAYLOAD short) refl
+payload_taken text bytes h =
+    let read = bind_some (cond (list_all is_lower_hex text) (result_ok (decode_of text)) None) _ bytes h in
+    let limit = cond_some (nat_le (length read.0) MAX_PAYLOAD) read.0 bytes read.2 in
+    elim (chosen (list_all is_lower_hex text) (result_ok (decode_of text)) None (Some read.0) read.1) [
+      | inl lower ↦
+          let ok = result_ok-some (decode_of text) read.0 lower.1 in
+          let even = decode_of-ok text read.0 ok in
+          let pairs = sym (decode_of-even text even.0) ∙ ok in
+          let back = encode-decode_pairs 0 text read.0 pairs lower.0 in
+          rw (← limit.1) ((leb-true (length read.0) MAX_PAYLOAD limit.0, all_bytes read.0 even.3), sym back)
+      | inr other ↦ cc other.1
+    ]
+
+-- digits of bytes are lower-case
+lower_below : (d : ℕ) → d < 16 → is_lower_hex (slice_index lower_digits d) ≡ true
+lower_below d lt = agree_below_at (λ v. is_lower_hex (slice_index lower_digits v)) (λ _. true) 16 d refl lt
+
+all_lower-encode_lower : (bytes : List ℕ) → AllByRecursion (λ b. b < 256) bytes → list_all is_lower_hex (encode_lower bytes) ≡ true
+unfolding encode_with
+all_lower-encode_lower [] h = refl
+all_lower-encode_lower (b ∷ bs) h =
+    let small : b < 256 = h.0 in
+    rw (lower_below (b / 16) (omega arith), lower_below (b % 16) (omega arith)) (all_lower-encode_lower bs h.1)
+
+payload_again : (bytes : List ℕ) → IsPayload bytes → payload_of (encode_lower bytes) ≡ Some bytes
+unfolding payload_of
+payload_again bytes h =
+    rw (all_lower-encode_lower bytes h.1, decode_of-encode_lower bytes (IsBytes-from_all bytes h.1), le-leb (length bytes) MAX_PAYLOAD h.0) refl
+
+pub payload_form : Form IsPayload encode_lower payload_of is_lower_hex
+payload_form = record { taken = payload_taken; again = payload_again; bytes = λ bytes h. all_lower-encode_lower bytes h.1 }

@@ -1,49 +1,20 @@
 -- Words that are cut off a text one by one.
-use Rattle.std.proofs.Common.{◌≡◌, ℕ, ◌<◌, ◌≤◌, Bool, true, false, if◌then◌else◌, ◌==◌, List, [], ◌∷◌, length, take, codes, bytes_eq, Option, Some, None, option_map, refl, sym, ap, subst, ◌∙◌, arith}
-use Rattle.std.specs.List.{list_any, position, position_or_len}
-use Rattle.std.proofs.lemmas.Bool.{ltb-false}
-use Rattle.std.proofs.lemmas.List.{length-take-le, get_or-take}
-use Rattle.std.proofs.lemmas.List.Elements.{All-from_get_or}
-use Rattle.std.proofs.lemmas.List.Quantifiers.{position-Some}
-use Rattle.std.proofs.lemmas.List.Sums.{fails_before_first}
-use Rattle.std.proofs.lemmas.List.Splits.{slice_split_none, slice_split_at}
+use Rattle.std.proofs.Common.{◌≡◌, ℕ, ◌<◌, ◌≤◌, Bool, true, false, if◌then◌else◌, ◌==◌, List, [], ◌∷◌, length, codes, bytes_eq, Option, Some, None, refl, sym, ap, subst, ◌∙◌, arith}
+use Rattle.std.specs.List.{list_any}
 use Rattle.bus_types.specs.Text.{cut_at, number_of, max_u64}
-use Rattle.bus_types.proofs.Cuts.{Lacks, cut_taken}
-use Rattle.bus_types.proofs.Options.{map_some}
+use Rattle.text_forms.proofs.ListForms.{split_cut, split_uncut}
 use Rattle.trace_script.specs.Words.{IsNoCommit, words_of, changes_of}
 use Rattle.trace_script.specs.Lines.{is_blank, commit_by, relay_of, consumer_of, commit_of, feed_of, poll_of, show_of, crash_of, stop_of, stream_of, log_of, apply_of, trim_of, restart_of, words_line, line_of}
 use Rattle.trace_script.specs.declared.line.Line.{Line}
 use Rattle.trace_script.proofs.LineTexts.{line_of_some}
 
-map_none : {A B : Type 0} (o : Option A) (f : A → B) → option_map f o ≡ None → o ≡ None
-map_none None f h = refl
-map_none (Some a) f h = cc h
-
-missing : (p : Bool) (i : ℕ) → (if p then Some i else None) ≡ None → p ≡ false
-missing true i h = cc h
-missing false i h = refl
-
-cut_lacks : (text word rest : List ℕ) → cut_at 32 text ≡ Some (word, rest) → Lacks 32 word
-cut_lacks text word rest cut =
-    let found = map_some (position (λ b. b == 32) text) _ (word, rest) cut in
-    let place = position-Some (λ b. b == 32) text found.0 0 found.1 in
-    let word_is : take found.0 text ≡ word = ap (λ (parts : List ℕ × List ℕ). parts.0) found.2 in
-    let long = length-take-le found.0 text (omega (arith, place.0)) in
-    rw (← word_is) (All-from_get_or (λ b. (b == 32) ≡ false) (take found.0 text) 0
-    (λ i lt. let below : i < found.0 = omega (arith, lt, long) in rw (get_or-take found.0 text i 0 below) (place.2 i below)))
-
-uncut_lacks : (text : List ℕ) → cut_at 32 text ≡ None → Lacks 32 text
-uncut_lacks text none =
-    let all : length text ≤ position_or_len (λ b. b == 32) text = ltb-false (position_or_len (λ b. b == 32) text) (length text) (missing _ _ (map_none (position (λ b. b == 32) text) _ none)) in
-    All-from_get_or (λ b. (b == 32) ≡ false) text 0 (λ i lt. fails_before_first (λ b. b == 32) text i 0 (omega arith))
-
 -- the first word, and those behind it
 pub words_cut : (text word rest : List ℕ) → cut_at 32 text ≡ Some (word, rest) → words_of text ≡ word ∷ words_of rest
-words_cut text word rest cut = ap words_of (cut_taken 32 text (word, rest) cut) ∙ slice_split_at (λ b. b == 32) word 32 rest (cut_lacks text word rest cut) refl
+words_cut text word rest cut = split_cut 32 text (word, rest) cut
 
 -- a text with one word
 pub words_uncut : (text : List ℕ) → cut_at 32 text ≡ None → words_of text ≡ text ∷ []
-words_uncut text none = slice_split_none (λ b. b == 32) text (uncut_lacks text none)
+words_uncut text none = split_uncut 32 text none
 
 -- a line of commits is read behind its first word
 pub line_of_commit : (text rest : List ℕ) → is_blank text ≡ false → list_any (λ b. b == 13) text ≡ false → words_of text ≡ codes "commit" ∷ words_of rest → line_of text ≡ commit_of (words_of rest)

@@ -9,7 +9,7 @@ use Rattle.bus_types.specs.declared.change.Change.{Change}
 use Rattle.bus_types.specs.declared.limits.TheConstants.{MAX_SCN}
 use Rattle.trace_script.specs.declared.fault.LineFault.{LineFault}
 use Rattle.trace_script.specs.declared.line.Line.{Line}
-use Rattle.trace_script.specs.declared.line.Line.TheVariants.{Blank, Relay, Consumer, Commit, Feed, Poll, Show, Crash, Stop, Stream, Log, Apply, Trim, RestartBoot}
+use Rattle.trace_script.specs.declared.line.Line.TheVariants.{Blank, Relay, Commit, Feed, Poll, Stream, Log, Apply, Trim}
 use Rattle.trace_script.specs.Lines.{line_of}
 use Rattle.trace_script.specs.Spelling.{IsLine, IsInRange, IsRoom, IsCount, IsMost, Spells, change_text, line_text, is_room, is_count, is_most, is_in_range}
 use Rattle.trace_script.specs.Reading.{Reads}
@@ -46,39 +46,22 @@ commit_text scn changes = ap (λ (l : List ℕ). codes "commit " ++ l) (join-spa
 
 pub spelled : (line : Line) → IsLine line → Spells (line_text line) line
 spelled Blank h = (refl, refl)
-spelled (Relay bytes windows) h = (h, refl)
-spelled (Consumer name filter) h = (h, refl)
-spelled (Commit scn changes) h = (h, refl)
-spelled (Feed count) h = (h, refl)
-spelled (Poll name max) h = (h, refl)
-spelled (Show name) h = (h, refl)
-spelled (Crash name) h = (h, refl)
-spelled (Stop name after) h = (h, refl)
-spelled (Stream scn filter max) h = (h, refl)
-spelled (Log count) h = (h, refl)
-spelled (Apply count) h = (h, refl)
-spelled (Trim scn) h = (h, refl)
-spelled RestartBoot h = (h, refl)
+spelled line h = (h, refl)
 
 pub read_back : (line : Line) → IsLine line → line_of (line_text line) ≡ Some line
 read_back line h = line_again (line_text line) line (spelled line h)
 
 -- what a text spells is in range
 in_range : (text : List ℕ) (line : Line) → Spells text line → IsInRange line
-in_range text Blank h = tt
 in_range text (Relay bytes windows) h = h.0
-in_range text (Consumer name filter) h = tt
 in_range text (Commit scn changes) h = h.0.1
 in_range text (Feed count) h = h.0
 in_range text (Poll name max) h = h.0.1
-in_range text (Show name) h = tt
-in_range text (Crash name) h = tt
-in_range text (Stop name after) h = tt
 in_range text (Stream scn filter max) h = (h.0.0, h.0.2)
 in_range text (Log count) h = h.0
 in_range text (Apply count) h = h.0
 in_range text (Trim scn) h = h.0
-in_range text RestartBoot h = tt
+in_range text line h = tt
 
 -- ---- the ranges as tests
 
@@ -95,20 +78,15 @@ stream_tested : (scn max : ℕ) → (nat_le scn MAX_SCN && is_most max) ≡ true
 stream_tested scn max h = let p = and_parts (nat_le scn MAX_SCN) (is_most max) h in (leb-true scn MAX_SCN p.0, most_tested max p.1)
 
 pub range_tested : (line : Line) → is_in_range line ≡ true → IsInRange line
-range_tested Blank h = tt
 range_tested (Relay bytes windows) h = room_tested bytes windows h
-range_tested (Consumer name filter) h = tt
 range_tested (Commit scn changes) h = ltb-true 0 (length changes) h
 range_tested (Feed count) h = count_tested count h
 range_tested (Poll name max) h = most_tested max h
-range_tested (Show name) h = tt
-range_tested (Crash name) h = tt
-range_tested (Stop name after) h = tt
 range_tested (Stream scn filter max) h = stream_tested scn max h
 range_tested (Log count) h = count_tested count h
 range_tested (Apply count) h = count_tested count h
 range_tested (Trim scn) h = leb-true scn MAX_SCN h
-range_tested RestartBoot h = tt
+range_tested line h = tt
 
 count_test : (count : ℕ) → IsCount count → is_count count ≡ true
 count_test count h = rw (le-leb 1 count h.0, le-leb count 1000000 h.1) refl
@@ -120,20 +98,15 @@ room_test : (bytes windows : ℕ) → IsRoom bytes windows → is_room bytes win
 room_test bytes windows h = rw (le-leb 1048576 bytes h.0, le-leb bytes 268435456 h.1, le-leb 1 windows h.2, le-leb windows 65536 h.3) refl
 
 range_test : (line : Line) → IsInRange line → is_in_range line ≡ true
-range_test Blank h = refl
 range_test (Relay bytes windows) h = room_test bytes windows h
-range_test (Consumer name filter) h = refl
 range_test (Commit scn changes) h = lt-ltb 0 (length changes) h
 range_test (Feed count) h = count_test count h
 range_test (Poll name max) h = most_test max h
-range_test (Show name) h = refl
-range_test (Crash name) h = refl
-range_test (Stop name after) h = refl
 range_test (Stream scn filter max) h = rw (le-leb scn MAX_SCN h.0) (most_test max h.1)
 range_test (Log count) h = count_test count h
 range_test (Apply count) h = count_test count h
 range_test (Trim scn) h = le-leb scn MAX_SCN h
-range_test RestartBoot h = refl
+range_test line h = refl
 
 pub all_in_range : (result : Result Line LineFault) (text : List ℕ) → Reads (λ line. line) result (line_of text) → IfOk result (λ line. is_in_range line ≡ true)
 all_in_range (Ok line) text h = range_test line (in_range text line (line_taken text line h))

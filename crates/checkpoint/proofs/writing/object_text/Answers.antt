@@ -1,7 +1,7 @@
 use Rattle.std.proofs.lemmas.Result.{IfOk-weaker}
 use Rattle.std.proofs.Common.{string_bytes}
 use Rattle.serde_json.specs.View.{view}
-use Rattle.checkpoint.proofs.Printed.{printed_mark}
+use Rattle.checkpoint.proofs.ReadBack.{printed_mark}
 use Rattle.checkpoint.proofs.writing.object_text.Goals as goal
 
 pub returns : goal.returns

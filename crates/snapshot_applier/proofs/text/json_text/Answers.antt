@@ -6,4 +6,4 @@ use Rattle.snapshot_applier.proofs.text.json_text.Goals as goal
 
 pub returns : goal.returns
 returns c =
-    IfOk-weaker c.to_string.result _ _ (λ text printed. printed_boot c.args.mark.now (view c.in_ok-value.value) (string_bytes text) c.in_ok-value.ensures printed) c.to_string.ensures.text
+    IfOk-weaker c.to_string.result _ _ (λ text printed. printed_boot c.args.mark.now (view c.in_ok-value.value) (string_bytes text) c.requires c.in_ok-value.ensures printed) c.to_string.ensures.text

@@ -1,0 +1,4 @@
+pub mod Tests
+pub mod Combinators
+pub mod ListForms
+pub mod ObjectTexts
