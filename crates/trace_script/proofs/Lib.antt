@@ -10,3 +10,4 @@ pub mod LineLaws
 pub mod WrittenTexts
 pub mod CutLines
 pub mod WordCuts
+pub mod Generating

@@ -6,3 +6,4 @@ pub mod Reading
 pub mod Input
 pub mod Cutting
 pub mod Printed
+pub mod Generated

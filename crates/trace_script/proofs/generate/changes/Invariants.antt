@@ -1,0 +1,9 @@
+use Rattle.std.proofs.Common.{◌≡◌, ◌-◌, ◌++◌}
+use Rattle.trace_script.specs.Generated.{generated_changes, after_changes}
+use Rattle.trace_script.proofs.generate.changes.Given as goal
+
+abbrev pub invariant-loop-i : goal.invariant-loop-i
+invariant-loop-i l = record {
+  changes : l.changes.items ++ generated_changes (l.count - l._i) l.state ≡ generated_changes l.count l.fn.state;
+  state : after_changes (l.count - l._i) l.state ≡ after_changes l.count l.fn.state;
+}

@@ -1,0 +1,7 @@
+use Rattle.std.proofs.Common.{refl}
+use Rattle.trace_script.specs.Generated.{next_state, generated_window}
+use Rattle.trace_script.proofs.generate.worked_windows.Goals as goal
+
+pub returns : goal.returns
+unfolding next_state generated_window
+returns c = record { draws = refl; window = refl; bytes = refl }
