@@ -74,6 +74,29 @@ fields_of scn source (Long key) None rest is = record {
   size = ap (λ n. 23 + n) (from_be_bytes-to_be_bytes_4 0 (omega arith)) ∙ payload_length scn source (Long key) None;
 }
 
+-- a number within the first bytes from a place on is one of all bytes
+take_front : (k n : ℕ) (xs : List ℕ) → k ≤ n → take k (take n xs) ≡ take k xs
+take_front zero n xs h = refl
+take_front (suc k) zero xs h = let none : ⊥ = omega (arith, h) in absurd none
+take_front (suc k) (suc n) [] h = refl
+take_front (suc k) (suc n) (x ∷ xs) h = ap (λ ys. x ∷ ys) (take_front k n xs (omega (arith, h)))
+
+take_in : (k p n : ℕ) (xs : List ℕ) → p + k ≤ n → take k (drop p (take n xs)) ≡ take k (drop p xs)
+take_in k p zero xs h = let none : k ≡ 0 = omega (arith, h) in subst (λ m. take m (drop p []) ≡ take m (drop p xs)) (sym none) refl
+take_in k p (suc n) [] h = refl
+take_in k zero (suc n) (x ∷ xs) h = take_front k (suc n) (x ∷ xs) (omega (arith, h))
+take_in k (suc p) (suc n) (x ∷ xs) h = take_in k p n xs (omega (arith, h))
+
+pub number_in : (w : Width) (n at p : ℕ) (xs part : List ℕ) → p + byte_len w ≤ n → part ≡ take n (drop at xs) → number_at w p part ≡ number_at w (at + p) xs
+unfolding number_at
+number_in w n at p xs part h is = ap (λ ys. from_be_bytes w (take (byte_len w) (drop p ys))) is ∙ ap (from_be_bytes w) (take_in (byte_len w) p n (drop at xs) h) ∙ sym (number_there w xs at p)
+
+pub number_whole : (at : ℕ) (xs part : List ℕ) → part ≡ take 8 (drop at xs) → number_at w64 0 part ≡ number_at w64 at xs
+number_whole at xs part is = number_in w64 8 at 0 xs part (omega arith) is ∙ ap (λ n. number_at w64 n xs) (omega arith)
+
+pub head_whole : (at : ℕ) (xs head : List ℕ) → head ≡ take 23 (drop at xs) → (number_at w16 1 head ≡ number_at w16 (at + 1) xs) × (number_at w64 11 head ≡ number_at w64 (at + 11) xs) × (number_at w32 19 head ≡ number_at w32 (at + 19) xs)
+head_whole at xs head is = (number_in w16 23 at 1 xs head (omega arith) is, number_in w64 23 at 11 xs head (omega arith) is, number_in w32 23 at 19 xs head (omega arith) is)
+
 -- what is read of an event that stands at a place
 pub placed_of : (bytes : List ℕ) (at source key size : ℕ) (e : Event) (rest : List ℕ) → source ≡ number_at w16 (at + 1) bytes → key ≡ number_at w64 (at + 11) bytes → size ≡ number_at w32 (at + 19) bytes
     → drop at bytes ≡ event_bytes e ++ rest → IsEvent e → IsPlaced (record { source = source; key = Long key; size = 23 + size }) e

@@ -24,11 +24,11 @@ pub(crate) fn event_at(circle: &Circle, at: usize) -> Placed
     requires { at + 23 ≤ length circle.now.bytes }
     ensures { (e : Event) (rest : List ℕ) → drop at circle.now.bytes ≡ event_bytes e ++ rest → IsEvent e → IsPlaced result e }
 {
-    let _within = circle.len();
+    let (source, key, len) = circle.head(at);
     Placed {
-        source: circle.short(at + 1),
-        key: Key::Long(circle.number(at + 11)),
-        size: HEAD_SIZE + circle.word(at + 19) as usize,
+        source,
+        key: Key::Long(key),
+        size: HEAD_SIZE + len as usize,
     }
 }
 

@@ -16,7 +16,7 @@ use std::alloc::Global;
 pub(crate) fn changes(alloc: Global, words: &[u8]) -> Result<Vec<Change>, LineFault>
     ensures { Reads (λ changes. changes.items) result (changes_of (words_of words.now)) }
 {
-    let mut changes = Vec::new(alloc);
+    let mut changes = Vec::with_capacity(alloc, 1)?;
     let mut rest = words;
     'words: while let Some((word, behind)) = cut_text(b' ', rest) {
         changes.push(change(alloc, word)?)?;
@@ -121,10 +121,19 @@ fn hex_bytes(alloc: Global, digits: &[u8]) -> Result<Vec<u8>, LineFault>
     Ok(decode(alloc, digits)?)
 }
 
+// Every digit is looked at, so that there is no branch for each.
 fn all_lower_hex(digits: &[u8]) -> bool
     ensures { result ≡ list_all is_lower_hex digits.now }
 {
-    digits
-        .iter()
-        .all(|b| matches!(*b, b'0'..=b'9' | b'a'..=b'f'))
+    let mut all = true;
+    for digit in digits {
+        all &= is_lower_hex(*digit);
+    }
+    all
+}
+
+fn is_lower_hex(digit: u8) -> bool
+    ensures { result ≡ is_lower_hex digit }
+{
+    matches!(digit, b'0'..=b'9' | b'a'..=b'f')
 }

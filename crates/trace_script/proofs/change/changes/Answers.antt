@@ -5,7 +5,7 @@ use Rattle.trace_script.proofs.change.changes.Goals as goal
 
 pub returns-in_err-change : goal.returns-in_err-change
 returns-in_err-change c =
-    let p = err_from_is_err_and c.from_residual.result c.from_residual.ensures.1 in
+    let p = err_from_is_err_and c.from_residual-in_err-change.result c.from_residual-in_err-change.ensures.1 in
     rw (p.1, p.2) (with_front-bad _ c.words.changes.items c.words.rest.now c.in-Some.word.now c.in-Some.behind.now _ (sym c.in-Some.ensures) c.in_err-change.ensures c.words.invariant)
 
 pub words-preserved : goal.words-preserved
