@@ -5,4 +5,5 @@ pub mod Making
 pub mod Moving
 pub mod Pushing
 pub mod Running
+pub mod Sizing
 pub mod Standing

@@ -199,6 +199,10 @@ scn_there bytes at mark s w e =
 pub window_within : (bytes : List ℕ) (at : ℕ) (s : Slot) → WindowAt bytes at s → at + s.size ≤ length bytes
 window_within bytes at s w = stands_within bytes at s.size (window_bytes s.window.value) (omega (arith, w.size)) (window_length s.window.value ∙ sym w.size) w.there
 
+-- all bytes of a window
+pub window_between : (bytes : List ℕ) (at : ℕ) (s : Slot) → WindowAt bytes at s → between bytes at (at + s.size) ≡ window_bytes s.window.value
+window_between bytes at s w = stands_part bytes at s.size (window_bytes s.window.value) (window_length s.window.value ∙ sym w.size) w.there
+
 -- the mark's bytes
 pub mark_there : (bytes : List ℕ) (at mark : ℕ) (s : Slot) → WindowAt bytes at s → mark + 17 ≡ at + s.size → between bytes mark (mark + 17) ≡ mark_bytes s.window.value.scn s.window.value.prev
 mark_there bytes at mark s w e =

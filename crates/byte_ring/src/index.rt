@@ -7,7 +7,7 @@ use std::marker::Brand;
 use std::sync::ledger::{Blank, Ledger};
 
 /// How many windows stand behind one entry of the index.
-const STRIDE: u64 = 16;
+pub(crate) const STRIDE: u64 = 16;
 
 /// Notes the window of a number in the index, where it is the first of so many: the SCN before it, and its number.
 pub(crate) fn note(index: &mut ScnIndex, scn: u64, number: u64)

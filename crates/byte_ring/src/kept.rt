@@ -8,7 +8,7 @@ ghost use Rattle.byte_ring.specs.Parts.{WindowAt};
 
 use crate::circle::Circle;
 use crate::event::scn_at;
-use crate::index::{find, forget, note};
+use crate::index::{STRIDE, find, forget, note};
 use crate::write::push_window;
 use bus_types::{MAX_SCN, NoMemory, Window};
 use circular_buffer::HeapCircularBuffer;
@@ -200,8 +200,8 @@ impl Kept {
         }
     }
 
-    /// Where the windows after an SCN begin, of which there is one. It is found by the index and then by at
-    /// most sixteen marks.
+    /// Where the windows after an SCN begin, of which there is one. It is found by the index and then, among
+    /// sixteen windows, by at most four marks.
     pub fn place_after(&self, scn: u64) -> usize
         requires low { self.now.floor ≤ scn }
         requires high { scn < end_from self.now.floor self.now.windows }
@@ -210,10 +210,16 @@ impl Kept {
         ensures within { result < length self.now.windows }
     {
         let _within = self.slots.len();
-        let mut place = self.noted(scn);
-        while self.scn(place) <= scn {
-            place += 1;
+        let mut low = self.noted(scn);
+        let mut high = self.len().min(low + STRIDE as usize);
+        'halves: while low + 1 < high {
+            let middle = low + (high - low) / 2;
+            if self.scn(middle - 1) <= scn {
+                low = middle;
+            } else {
+                high = middle;
+            }
         }
-        place
+        low
     }
 }

@@ -171,7 +171,7 @@ fn serve_from<F: Accepts, W: Sink>(
         return Ok(Served::TooSmall(need));
     }
     let run = longest_run(kept, from, filter, max);
-    send_windows(kept, from, run.count, filter, out)?;
+    send_windows(kept, from, run.count, &run.sizes, filter, out)?;
     Ok(Served::Windows {
         count: run.count,
         last: run.last,

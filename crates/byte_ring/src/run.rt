@@ -3,6 +3,7 @@ ghost use Rattle.bus_types.specs.Cut.{cut_size, cuts};
 ghost use Rattle.bus_types.specs.Relay.{longest_run, most_windows};
 ghost use Rattle.plain_buffer.specs.Run.{Tells};
 ghost use Rattle.byte_ring.specs.Parts.{WindowAt};
+ghost use Rattle.byte_ring.specs.Sizes.{AreSizes};
 
 use crate::circle::Circle;
 use crate::event::{Placed, event_at, scn_at};
@@ -13,12 +14,14 @@ use event_codec::MARK_SIZE;
 /// The most windows that a reply has.
 const MOST_WINDOWS: u32 = 32;
 
-/// A run of windows as a filter left them: how many, the SCN of the last one, or 0, and the bytes that they take.
+/// A run of windows as a filter left them: how many, the SCN of the last one, or 0, the bytes that they take together and
+/// each.
 #[derive(Clone, Copy, Debug)]
 pub(crate) struct Run {
     pub count: u32,
     pub last: u64,
     pub bytes: u64,
+    pub sizes: [u32; 32],
 }
 
 // The bytes of an event where a filter accepts it, and else 0.
@@ -54,27 +57,42 @@ pub(crate) fn longest_run<F: Accepts>(kept: &Kept, from: usize, filter: &F, max:
     requires { from ≤ length kept.now.windows }
     ensures tells { Tells result.count result.last result.bytes []
         (longest_run most_windows max (cuts (F.test filter.now) (drop from kept.now.windows))) }
+    ensures few { result.count ≤ most_windows }
+    ensures sizes { AreSizes (F.test filter.now) result.sizes result.count from kept.now.windows }
     ensures range { result.last ≤ MAX_SCN }
 {
     let end = kept.len();
     let mut last = 0;
     let mut bytes = 0;
+    let mut sizes = [0; 32];
     for count in 0..MOST_WINDOWS {
         let place = from + count as usize;
         if place >= end {
-            return Run { count, last, bytes };
+            return Run {
+                count,
+                last,
+                bytes,
+                sizes,
+            };
         }
         let (at, slot) = kept.window(place);
         let size = cut_size(kept.circle(), at, slot, filter);
         if size > max - bytes {
-            return Run { count, last, bytes };
+            return Run {
+                count,
+                last,
+                bytes,
+                sizes,
+            };
         }
         bytes += size;
+        sizes[count as usize] = size as u32;
         last = scn_at(kept.circle(), at, slot);
     }
     Run {
         count: MOST_WINDOWS,
         last,
         bytes,
+        sizes,
     }
 }

@@ -19,7 +19,11 @@ send_windows-requires g c =
     let is = sym (get_or_from_slice_get c.args.kept.now.windows c.args.from w w c.window-at.ensures.window) in
     let need = c.cut_size-need.ensures.value in
     let fits : cut_size test w ≤ c.args.max = omega arith in
-    (served_run test c.args.kept.now.windows c.args.from c.args.max run.count run.last run.bytes w c.requires is fits c.longest_run-run.ensures.tells).within
+    record {
+      within = (served_run test c.args.kept.now.windows c.args.from c.args.max run.count run.last run.bytes w c.requires is fits c.longest_run-run.ensures.tells).within;
+      few = c.longest_run-run.ensures.few;
+      sizes = c.longest_run-run.ensures.sizes;
+    }
 
 pub returns-in_err-send_windows-clause-part : goal.returns-in_err-send_windows-clause-part
 returns-in_err-send_windows-clause-part g c =

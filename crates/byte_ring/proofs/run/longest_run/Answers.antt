@@ -1,10 +1,13 @@
-use Rattle.std.proofs.Common.{◌≡◌, ◌+◌, ◌-◌, ◌<◌, ◌≤◌, [], drop, sym, subst, arith}
+use Rattle.std.proofs.Common.{◌≡◌, ◌+◌, ◌-◌, ◌<◌, ◌≤◌, [], drop, sym, subst, ◌∙◌, arith}
+use Rattle.std.proofs.lemmas.List.{length-set}
 use Rattle.std.proofs.lemmas.Option.{get_or_from_slice_get}
 use Rattle.bus_types.specs.Cut.{cuts, cut_size}
 use Rattle.bus_types.specs.Relay.{longest_run, most_windows}
 use Rattle.plain_buffer.specs.Run.{Tells}
 use Rattle.plain_buffer.proofs.Runs.{tells_all, run_of_none, run_step}
 use Rattle.byte_ring.proofs.Running.{run_over}
+use Rattle.byte_ring.proofs.Sizing.{sizes_more}
+use Rattle.byte_ring.specs.Sizes.{AreSizes}
 use Rattle.byte_ring.proofs.run.longest_run.Goals as goal
 
 pub returns-then-size-max-clause-tells : goal.returns-then-size-max-clause-tells
@@ -31,6 +34,8 @@ loop-count-preserved g c =
     record {
       within = omega arith;
       range = c.scn_at-last.ensures.range;
+      sizes = sizes_more test c.loop-count.sizes c.loop-count.count size c.args.from ws w c.loop-count.invariant.sizes c.window-at.ensures.window c.cut_size-size.ensures.value (omega (arith, few, c.loop-count.invariant.room));
+      room = length-set c.loop-count.sizes c.loop-count.count size ∙ c.loop-count.invariant.room;
       few = omega arith;
       tells = rw c.scn_at-last.ensures.value told;
     }
@@ -43,3 +48,14 @@ returns-clause-tells g c =
     let run = longest_run most_windows c.args.max (cuts test (drop c.args.from ws)) in
     let none = run_of_none (most_windows - c.loop-count.count) (c.args.max - c.loop-count.bytes) (cuts test (drop (c.args.from + c.loop-count.count) ws)) (omega arith) in
     subst (λ n. Tells n c.loop-count.last c.loop-count.bytes [] run) full (tells_all c.loop-count.count c.loop-count.last c.loop-count.bytes _ run none c.loop-count.invariant.tells)
+
+pub returns-then-place-end-clause-sizes : goal.returns-then-place-end-clause-sizes
+returns-then-place-end-clause-sizes g c = c.loop-count.invariant.sizes
+
+pub returns-then-size-max-clause-sizes : goal.returns-then-size-max-clause-sizes
+returns-then-size-max-clause-sizes g c = c.loop-count.invariant.sizes
+
+pub returns-clause-sizes : goal.returns-clause-sizes
+returns-clause-sizes g c =
+    let full : c.loop-count.count ≡ 32 = omega arith in
+    subst (λ n. AreSizes (g.F.Accepts.test c.args.filter.now) c.loop-count.sizes n c.args.from c.args.kept.now.windows) full c.loop-count.invariant.sizes

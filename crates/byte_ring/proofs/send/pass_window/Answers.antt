@@ -1,43 +1,27 @@
-use Rattle.std.proofs.Common.{◌≡◌, ◌+◌, ◌-◌, length-append, subst, arith}
-use Rattle.std.proofs.lemmas.Result.{err_from_is_err_and}
-use Rattle.bus_types.specs.Change.{accepted}
+use Rattle.std.proofs.Common.{◌≡◌, ◌+◌, ◌-◌, sym, ap, subst, ◌∙◌, arith}
 use Rattle.bus_types.specs.Cut.{cut}
-use Rattle.event_codec.specs.Bytes.{changes_bytes, mark_bytes}
-use Rattle.event_codec.proofs.Cuts.{cut_no_larger}
-use Rattle.event_codec.proofs.WindowBytes.{window_length}
+use Rattle.event_codec.specs.Bytes.{window_bytes}
 use Rattle.plain_buffer.specs.Send.{told}
 use Rattle.byte_ring.specs.Parts.{Moves}
-use Rattle.byte_ring.proofs.Moving.{moves_stop, moves_then}
-use Rattle.byte_ring.proofs.Standing.{mark_there, window_within}
+use Rattle.byte_ring.proofs.Sizing.{whole_cut, bare_cut}
+use Rattle.byte_ring.proofs.Standing.{window_within, window_between}
 use Rattle.byte_ring.proofs.send.pass_window.Goals as goal
 
-pub returns-in_err-pending-clause-moves : goal.returns-in_err-pending-clause-moves
-returns-in_err-pending-clause-moves g c =
-    let p = err_from_is_err_and c.from_residual.result c.from_residual.ensures.1 in
-    let w = c.args.slot.now.window.value in
-    let events = changes_bytes w.scn (accepted (g.F.Accepts.test c.args.filter.now) w.changes) in
-    rw (p.1, p.2) (moves_stop c.args.circle.now.bytes (told (g.W.Sink.written c.args.out.now) (g.W.Sink.room c.args.out.now)) (told (g.W.Sink.written c.pass_events.new.out) (g.W.Sink.room c.pass_events.new.out)) c.args.pending c.in_err-pending.field-0.0 events (mark_bytes w.scn w.prev) c.in_err-pending.ensures.moves)
+pub pass-requires-clause-within : goal.pass-requires-clause-within
+pass-requires-clause-within g c = window_within c.args.circle.now.bytes c.args.at c.args.slot.now c.requires.there
 
-pub overflow_add-mark : goal.overflow_add-mark
-overflow_add-mark g c = omega (arith, window_within c.args.circle.now.bytes c.args.at c.args.slot.now c.requires.there, c.len-within.ensures)
+pub returns-then-size-slot-clause-moves : goal.returns-then-size-slot-clause-moves
+returns-then-size-slot-clause-moves g c =
+    let slot = c.args.slot.now in
+    let w = slot.window.value in
+    let test = g.F.Accepts.test c.args.filter.now in
+    let all = whole_cut test w (sym c.requires.size ∙ c.if-size-slot.true ∙ c.requires.there.size) in
+    let text = window_between c.args.circle.now.bytes c.args.at slot c.requires.there ∙ ap window_bytes (sym all) in
+    subst (Moves c.args.circle.now.bytes (told (g.W.Sink.written c.args.out.now) (g.W.Sink.room c.args.out.now)) (told (g.W.Sink.written c.pass.new.out) (g.W.Sink.room c.pass.new.out)) c.args.pending c.pass.result) text c.pass.ensures.moves
 
-pub pass-requires-clause-few : goal.pass-requires-clause-few
-pass-requires-clause-few g c =
+pub returns-then-size-clause-moves : goal.returns-then-size-clause-moves
+returns-then-size-clause-moves g c =
     let w = c.args.slot.now.window.value in
     let test = g.F.Accepts.test c.args.filter.now in
-    let events = changes_bytes w.scn (accepted test w.changes) in
-    omega (arith, c.in_ok-pending.ensures.moves.count, c.requires.few, window_length (cut test w), length-append events (mark_bytes w.scn w.prev), cut_no_larger test w c.requires.there.is)
-
-pub pass-requires-clause-within : goal.pass-requires-clause-within
-pass-requires-clause-within g c = omega (arith, window_within c.args.circle.now.bytes c.args.at c.args.slot.now c.requires.there, c.requires.there.size)
-
-pub returns-clause-moves : goal.returns-clause-moves
-returns-clause-moves g c =
-    let w = c.args.slot.now.window.value in
-    let events = changes_bytes w.scn (accepted (g.F.Accepts.test c.args.filter.now) w.changes) in
-    let slot = c.args.slot.now in
-    let mark = (c.args.at + slot.size) - 17 in
-    let place : mark + 17 ≡ c.args.at + slot.size = omega (arith, c.requires.there.size) in
-    let text = mark_there c.args.circle.now.bytes c.args.at mark slot c.requires.there place in
-    moves_then c.args.circle.now.bytes _ _ _ c.args.pending c.in_ok-pending.pending c.pass.result events (mark_bytes w.scn w.prev) c.in_ok-pending.ensures.moves
-    (subst (Moves c.args.circle.now.bytes (told (g.W.Sink.written c.pass_events.new.out) (g.W.Sink.room c.pass_events.new.out)) (told (g.W.Sink.written c.pass.new.out) (g.W.Sink.room c.pass.new.out)) c.in_ok-pending.pending c.pass.result) text c.pass.ensures.moves)
+    let text = sym (bare_cut test w (sym c.requires.size ∙ c.if-size.true)) in
+    subst (Moves c.args.circle.now.bytes (told (g.W.Sink.written c.args.out.now) (g.W.Sink.room c.args.out.now)) (told (g.W.Sink.written c.pass_mark.new.out) (g.W.Sink.room c.pass_mark.new.out)) c.args.pending c.pass_mark.result) text c.pass_mark.ensures.moves
