@@ -8,3 +8,5 @@ pub mod Askings
 pub mod Sendings
 pub mod Turnings
 pub mod Servings
+pub mod Lengths
+pub mod Receivings

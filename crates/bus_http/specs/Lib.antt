@@ -9,3 +9,5 @@ pub mod Asking
 pub mod Talks
 pub mod Sent
 pub mod Turns
+pub mod Answers
+pub mod Receiving
