@@ -11,3 +11,4 @@ pub mod Sent
 pub mod Turns
 pub mod Answers
 pub mod Receiving
+pub mod Asked

@@ -20,6 +20,7 @@ mod service;
 mod serving;
 
 pub use answer::AnswerFault;
+pub use asking::{AskFault, write_ask};
 pub use fault::RequestFault;
 pub use inbox::Inbox;
 pub use receiving::read_answer;
