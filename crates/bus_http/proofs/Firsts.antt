@@ -30,7 +30,7 @@ first_as side end held after rest result le f = record {
   rest_is = ap (λ (x : List ℕ). x ++ after) f.rest_is ∙ sym (drop-append-le end held after le);
 }
 
-settled_head : (side : Side) (end : ℕ) (held rest : List ℕ) (result : Found) → length held ≤ 16384 → HoldsHead end held → FirstAs side end held result rest → Settled side held result rest
+pub settled_head : (side : Side) (end : ℕ) (held rest : List ℕ) (result : Found) → length held ≤ 16384 → HoldsHead end held → FirstAs side end held result rest → Settled side held result rest
 settled_head side end held rest result short head f after =
     subst (λ (o : Option ℕ). FirstAt side o (held ++ after) result (rest ++ after)) (sym (front_of most_head end held after short head.ends)) (first_as side end held after rest result head.within f)
 

@@ -10,3 +10,7 @@ pub mod Turnings
 pub mod Servings
 pub mod Lengths
 pub mod Receivings
+pub mod Forms
+pub mod AsksAgain
+pub mod AskHeads
+pub mod ReadBack
