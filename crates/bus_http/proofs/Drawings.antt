@@ -9,7 +9,7 @@ use Rattle.std.proofs.lemmas.Slice.{take-put_mid, take-put_mid_below}
 use Rattle.std.proofs.Math.Seq.{take-append-add}
 use Rattle.std.proofs.KnownBytes.{Appends-trans, Consumes-trans}
 use Rattle.std.specs.Io.KnownBytes.{Keeps, Consumes, Appends}
-use Rattle.bus_http.specs.Inbox.{Draws}
+use Rattle.bus_http.specs.Inbox.{Draws, Drew}
 
 kept_left : (a b : Option (List ℕ)) → Keeps a b → Consumes a b []
 kept_left None b k = tt
@@ -70,3 +70,6 @@ pub draws_nothing : (l m g h : Option (List ℕ)) (used k : ℕ) (room buf : Lis
 draws_nothing l m g h used k room buf le left given =
     let same : take used (put_mid used k room buf) ≡ take used room = take-put_mid_below used k room buf used (omega arith) le in
     rw same (draws_none l m g h (take used room) left given)
+
+pub drew_of : (l m g h : Option (List ℕ)) (a b : List ℕ) → Draws l m g h a b → Drew l m g h
+drew_of l m g h a b d = record { came = d.came; left = d.left; given = d.given }

@@ -17,7 +17,7 @@ use Rattle.bus_http.specs.Inbox.{Draws, HoldsHead, HoldsNone, HoldsPart, Comes}
 use Rattle.bus_http.specs.Requests.{Found, unended, FirstAs, FirstAt, First, Untaken, Reads, Takes, Settled, IsLast, Sees, Saw, IsWithin, AnswersComing, WhereTold}
 
 -- the first bytes hold the end of the head at the front
-front_of : (n end : ℕ) (held after : List ℕ) → length held ≤ n → ((rest : List ℕ) → head_end (held ++ rest) ≡ Some end) → head_end (take n (held ++ after)) ≡ Some end
+pub front_of : (n end : ℕ) (held after : List ℕ) → length held ≤ n → ((rest : List ℕ) → head_end (held ++ rest) ≡ Some end) → head_end (take n (held ++ after)) ≡ Some end
 front_of n end held after le ends =
     let parts : n ≡ length held + (n - length held) = omega arith in
     ap (λ k. head_end (take k (held ++ after))) parts ∙ ap head_end (take-append-add held after (n - length held)) ∙ ends (take (n - length held) after)
@@ -30,7 +30,7 @@ first_as side end held after rest result le f = record {
   rest_is = ap (λ (x : List ℕ). x ++ after) f.rest_is ∙ sym (drop-append-le end held after le);
 }
 
-settled_head : (side : Side) (end : ℕ) (held rest : List ℕ) (result : Found) → length held ≤ 16384 → HoldsHead end held → FirstAs side end held result rest → Settled side held result rest
+pub settled_head : (side : Side) (end : ℕ) (held rest : List ℕ) (result : Found) → length held ≤ 16384 → HoldsHead end held → FirstAs side end held result rest → Settled side held result rest
 settled_head side end held rest result short head f after =
     subst (λ (o : Option ℕ). FirstAt side o (held ++ after) result (rest ++ after)) (sym (front_of most_head end held after short head.ends)) (first_as side end held after rest result head.within f)
 

@@ -8,3 +8,9 @@ pub mod Askings
 pub mod Sendings
 pub mod Turnings
 pub mod Servings
+pub mod Lengths
+pub mod Receivings
+pub mod Forms
+pub mod AsksAgain
+pub mod AskHeads
+pub mod ReadBack

@@ -1,8 +1,8 @@
 -- What a client writes to ask.
-use Rattle.std.specs.Prelude.{ℕ, List, [], ◌∷◌, ◌++◌, Bool, true, false, codes, decimal}
+use Rattle.std.specs.Prelude.{ℕ, ◌≤◌, List, [], ◌∷◌, ◌++◌, Bool, true, false, codes, decimal}
 use Rattle.form_urlencoded.specs.Form.{extend_pairs}
-use Rattle.partition_filter.specs.Spelling.{filter_text}
-use Rattle.bus_types.specs.Text.{cursor_text}
+use Rattle.partition_filter.specs.Spelling.{filter_text, IsFilter}
+use Rattle.bus_types.specs.Text.{IsCursor, cursor_text}
 use Rattle.bus_wire.specs.declared.ask.Ask.{Ask}
 use Rattle.bus_wire.specs.declared.ask.Ask.TheVariants.{Stream, Start, Scan, Target, Catchup, Delta}
 
@@ -36,3 +36,21 @@ pairs_of (Delta since target cursor filter max) =
 -- the request of an ask: its parameters are written as a form
 abbrev pub ask_text : Ask → List ℕ
 ask_text ask = codes "GET " ++ path_of ask ++ codes "?" ++ extend_pairs [] (pairs_of ask) ++ codes " HTTP/1.1\r\nHost: localhost\r\n\r\n"
+
+-- the most bytes that are asked for are in their range, as the numbers of a cursor are, and the filter is one
+abbrev pub IsInRange : Ask → Type 0
+IsInRange (Stream scn filter max) = IsFilter filter × (1 ≤ max) × (max ≤ 16777216)
+IsInRange (Start since fresh) = Unit {0}
+IsInRange (Scan start cursor filter max) = IsCursor cursor × IsFilter filter × (1 ≤ max) × (max ≤ 16777216)
+IsInRange (Target start atleast) = Unit {0}
+IsInRange (Catchup at target filter max) = IsFilter filter × (1 ≤ max) × (max ≤ 16777216)
+IsInRange (Delta since target cursor filter max) = IsCursor cursor × IsFilter filter × (1 ≤ max) × (max ≤ 16777216)
+
+-- the most bytes that are asked for are in their range
+abbrev pub IsSized : Ask → Type 0
+IsSized (Stream scn filter max) = (1 ≤ max) × (max ≤ 16777216)
+IsSized (Start since fresh) = Unit {0}
+IsSized (Scan start cursor filter max) = (1 ≤ max) × (max ≤ 16777216)
+IsSized (Target start atleast) = Unit {0}
+IsSized (Catchup at target filter max) = (1 ≤ max) × (max ≤ 16777216)
+IsSized (Delta since target cursor filter max) = (1 ≤ max) × (max ≤ 16777216)

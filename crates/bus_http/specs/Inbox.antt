@@ -12,6 +12,12 @@ pub record Draws (left_old left_new given_old given_new : Option (List ℕ)) (ol
   pub left : Consumes left_old left_new came
   pub given : Appends given_old given_new came
 
+-- some bytes were given
+pub record Drew (left_old left_new given_old given_new : Option (List ℕ)) : Type 0 where
+  pub came : List ℕ
+  pub left : Consumes left_old left_new came
+  pub given : Appends given_old given_new came
+
 -- a whole head stands at the front of what is held, however the input goes on
 pub record HoldsHead (end : ℕ) (held : List ℕ) : Type 0 where
   pub within : end ≤ length held

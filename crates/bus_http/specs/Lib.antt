@@ -9,3 +9,6 @@ pub mod Asking
 pub mod Talks
 pub mod Sent
 pub mod Turns
+pub mod Answers
+pub mod Receiving
+pub mod Asked

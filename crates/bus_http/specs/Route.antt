@@ -10,6 +10,7 @@ use Rattle.bus_http.specs.declared.route.Route.{Route}
 use Rattle.bus_http.specs.declared.route.Route.TheVariants.{Stream, Start, Scan, Target, Catchup, Delta}
 use Rattle.bus_http.specs.declared.fault.QueryFault.{QueryFault}
 use Rattle.bus_http.specs.declared.fault.QueryFault.TheVariants.{BadQuery, NoMemory}
+use Rattle.bus_http.specs.Asking.{IsSized}
 use Rattle.bus_http.specs.Query.{scn_in, scn_from, scn_above, max_in, filter_in, fresh_in, cursor_in}
 
 -- ---- paths
@@ -113,10 +114,11 @@ abbrev pub AsksOf : Side → Ask → Type 0
 AsksOf Relay ask = AsksRelay ask
 AsksOf Boot ask = AsksBootstrap ask
 
--- the same, which keeps the rules of an ask
+-- the same, which keeps the rules of an ask and asks for a number of bytes in its range
 pub record IsAskOf (side : Side) (ask : Ask) : Type 0 where
   pub asks_side : AsksOf side ask
   pub rules : IsAsk ask
+  pub sized : IsSized ask
 
 -- ---- calls
 

@@ -1,11 +1,20 @@
-ghost use Rattle.std.specs.Prelude.{◌≡◌, [], codes, decimal, IfOk, OnOk, string_bytes};
+ghost use Rattle.std.specs.Prelude.{◌≡◌, ◌≤◌, ◌++◌, ℕ, List, Ok, Some, false, [], codes, decimal, IfOk, IfErr, OnOk, string_bytes};
+ghost use Rattle.std.specs.Io.KnownBytes.{Appends};
+ghost use Rattle.bus_types.specs.Causes.{Rose};
 ghost use Rattle.form_urlencoded.specs.Form.{append_pair, extend_pairs};
 ghost use Rattle.partition_filter.specs.Spelling.{filter_text};
 ghost use Rattle.bus_types.specs.Text.{cursor_text as cursor_bytes};
 ghost use Rattle.bus_wire.specs.declared.ask.Ask.TheVariants as asks;
-ghost use Rattle.bus_http.specs.Asking.{flag_text, path_of, pairs_of, ask_text};
+ghost use Rattle.bus_http.specs.Asking.{flag_text, path_of, pairs_of, ask_text, IsInRange, IsSized};
+ghost use Rattle.bus_types.specs.Text.{IsCursor};
+ghost use Rattle.bus_wire.specs.Asks.{IsAsk};
+ghost use Rattle.bus_http.specs.declared.route.Side.{Side as SideValue};
+ghost use Rattle.bus_http.specs.Route.{AsksOf};
+ghost use Rattle.bus_http.specs.Requests.{First};
+ghost use Rattle.bus_http.specs.Asked.{AsksPart, IsWriteFault};
 
-use bus_types::{Cursor, NoMemory, cursor_text};
+use bus_io::{Sink, WriteFault, write_all};
+use bus_types::{Cursor, Key, NoMemory, cursor_text};
 use bus_wire::Ask;
 use form_urlencoded::Serializer;
 use itoa::Buffer;
@@ -178,4 +187,80 @@ fn ask_text(alloc: Global, ask: &Ask) -> Result<String, NoMemory>
     let form = form_of(alloc, ask)?;
     let text = format!(in alloc; "GET {path}?{form} HTTP/1.1\r\nHost: localhost\r\n\r\n")?;
     Ok(text)
+}
+
+/// Why an ask was not written.
+#[derive(Clone, Copy, Debug, PartialEq, Eq)]
+pub enum AskFault {
+    /// The sink failed: its count rose.
+    WriteFault {
+        /// How many bytes of the request went out: the first ones, and no others.
+        written: u64,
+    },
+    /// Memory ran out. Nothing was written.
+    NoMemory,
+}
+
+// The numbers of a cursor are in the ranges of their types.
+fn placed(cursor: &Cursor)
+    ensures { IsCursor cursor.now }
+{
+    match cursor {
+        Cursor::Start => {}
+        Cursor::After { source, key } => {
+            let Key::Long(key) = key;
+            let _source = *source;
+            let _key = *key;
+        }
+    }
+}
+
+// So are those of an ask, and its filter is one.
+fn in_range(ask: &Ask)
+    requires { IsSized ask.now }
+    ensures { IsInRange ask.now }
+{
+    match ask {
+        Ask::Stream { filter, .. } => {
+            let _filter = filter.is_all();
+        }
+        Ask::Start { .. } => {}
+        Ask::Scan { cursor, filter, .. } => {
+            placed(cursor);
+            let _filter = filter.is_all();
+        }
+        Ask::Target { .. } => {}
+        Ask::Catchup { filter, .. } => {
+            let _filter = filter.is_all();
+        }
+        Ask::Delta { cursor, filter, .. } => {
+            placed(cursor);
+            let _filter = filter.is_all();
+        }
+    }
+}
+
+/// Writes the request of an ask, at once. A write fault comes only where the sink's count rose, and tells how many bytes of the
+/// request went out before it; after want of memory none did.
+pub fn write_ask<W: Sink>(alloc: Global, out: &mut W, ask: &Ask) -> Result<(), AskFault>
+    requires rules { IsAsk ask.now }
+    requires sized { IsSized ask.now }
+    ensures ok { OnOk result (Appends (W.written out.old) (W.written out.new) (ask_text ask.now)) }
+    ensures part { IfErr result (λ fault. AsksPart fault (W.written out.old) (W.written out.new) (ask_text ask.now)) }
+
+    // Whatever follows that request, it is read as this ask, which leaves exactly what follows.
+    ensures read_back { (side : SideValue) → AsksOf side ask.now → (rest : List ℕ) → First side (ask_text ask.now ++ rest)
+        (Ok (Some record { ask = ask.now; close = false })) rest }
+    ensures later { W.faults out.old ≤ W.faults out.new }
+    ensures failed { IfErr result (λ fault. IsWriteFault fault → Rose (W.faults out.old) (W.faults out.new)) }
+    ensures beside { W.beside out.new ≡ W.beside out.old }
+{
+    in_range(ask);
+    let Ok(text) = ask_text(alloc, ask) else {
+        return Err(AskFault::NoMemory);
+    };
+    match write_all(out, text.as_bytes()) {
+        Ok(()) => Ok(()),
+        Err(WriteFault { written }) => Err(AskFault::WriteFault { written }),
+    }
 }

@@ -3,6 +3,7 @@ ghost use Rattle.std.specs.List.{list_any};
 ghost use Rattle.httparse.specs.Grammar.{RequestHead};
 ghost use Rattle.httparse.specs.Spans.{IsWithin, IsHeaderWithin, IsRequestWithin, IsRequestAt, header_bytes, span_bytes};
 ghost use Rattle.bus_wire.specs.Asks.{IsAsk};
+ghost use Rattle.bus_http.specs.Asking.{IsSized};
 ghost use Rattle.bus_http.specs.Route.{parts_of, route_of, AsksBy, IsAskOf};
 ghost use Rattle.bus_http.specs.Head.{is_word, says_body, says_close, answered, requested, IsHead, told, Means};
 
@@ -59,6 +60,7 @@ fn asks_to_close(text: &[u8], headers: &[HeaderSpan]) -> bool
 fn answered(alloc: Global, close: bool, route: Route, query: &[u8]) -> Result<Request, HeadFault>
     ensures means { IfSome (told result) (λ r. r ≡ answered close (Some route) query.now) }
     ensures rules { IfOk result (λ r. IsAsk r.ask) }
+    ensures sized { IfOk result (λ r. IsSized r.ask) }
     ensures side { IfOk result (λ r. AsksBy route r.ask) }
 {
     let ask = ask(alloc, route, query)?;

@@ -3,6 +3,7 @@
 //! `httparse`, `form_urlencoded` and `itoa`. The layers above rely on which ask the first request of some bytes is.
 #![tactic(auto)]
 
+mod answer;
 mod asking;
 mod coming;
 mod ending;
@@ -10,6 +11,7 @@ mod fault;
 mod head;
 mod inbox;
 mod query;
+mod receiving;
 mod reply;
 mod request;
 mod route;
@@ -17,8 +19,11 @@ mod sending;
 mod service;
 mod serving;
 
+pub use answer::AnswerFault;
+pub use asking::{AskFault, write_ask};
 pub use fault::RequestFault;
 pub use inbox::Inbox;
+pub use receiving::read_answer;
 pub use reply::{Refused, append_reply_head, write_refusal, write_reply_head};
 pub use request::{Request, read_request};
 pub use route::Side;

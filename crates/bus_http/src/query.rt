@@ -111,7 +111,8 @@ pub(crate) fn scn_above(
 /// The most bytes that a query asks for.
 #[tactic(auto, unfolding(crate::specs::Query::max_in))]
 pub(crate) fn max(alloc: Global, query: &[u8]) -> Result<Option<u32>, NoMemory>
-    ensures { IfOk result (λ max. max ≡ max_in query.now) }
+    ensures value { IfOk result (λ max. max ≡ max_in query.now) }
+    ensures within { IfOk result (λ found. IfSome found (λ max. (1 ≤ max) × (max ≤ 16777216))) }
 {
     let Some(text) = parameter(alloc, query, b"max")? else {
         return Ok(None);

@@ -1,6 +1,7 @@
 ghost use Rattle.std.specs.Prelude.{◌≡◌, ◌<◌, ◌≤◌, IfOk, IfSome};
 ghost use Rattle.bus_wire.specs.declared.ask.Ask.{Ask as AskValue};
 ghost use Rattle.bus_wire.specs.Asks.{IsAsk, AsksBootstrap};
+ghost use Rattle.bus_http.specs.Asking.{IsSized};
 ghost use Rattle.bus_http.specs.Query.{scn_in, scn_from, scn_above, max_in, filter_in, fresh_in, cursor_in};
 ghost use Rattle.bus_http.specs.Route.{parts_of, boot_route, route_of, stream_in, start_in, scan_in, target_in, catchup_in, delta_in, ask_in, Finds, Asks, AsksRelay, AsksOf, AsksBy};
 
@@ -121,7 +122,8 @@ fn scn_above(
 }
 
 fn max(alloc: Global, query: &[u8], name: u8) -> Result<u32, QueryFault>
-    ensures { Finds name result (max_in query.now) }
+    ensures finds { Finds name result (max_in query.now) }
+    ensures within { IfOk result (λ max. (1 ≤ max) × (max ≤ 16777216)) }
 {
     let found = query::max(alloc, query)?;
     found.ok_or(QueryFault::BadQuery { name })
@@ -152,6 +154,7 @@ fn cursor(alloc: Global, query: &[u8], name: u8) -> Result<Cursor, QueryFault>
 fn stream(alloc: Global, query: &[u8]) -> Result<Ask, QueryFault>
     ensures asks { Asks result (stream_in query.now) }
     ensures rules { IfOk result IsAsk }
+    ensures sized { IfOk result IsSized }
     ensures side { IfOk result AsksRelay }
 {
     let scn = scn(alloc, query, 0, b"scn")?;
@@ -164,6 +167,7 @@ fn stream(alloc: Global, query: &[u8]) -> Result<Ask, QueryFault>
 fn start(alloc: Global, query: &[u8]) -> Result<Ask, QueryFault>
     ensures asks { Asks result (start_in query.now) }
     ensures rules { IfOk result IsAsk }
+    ensures sized { IfOk result IsSized }
     ensures side { IfOk result AsksBootstrap }
 {
     let since = scn(alloc, query, 0, b"since")?;
@@ -175,6 +179,7 @@ fn start(alloc: Global, query: &[u8]) -> Result<Ask, QueryFault>
 fn scan(alloc: Global, query: &[u8]) -> Result<Ask, QueryFault>
     ensures asks { Asks result (scan_in query.now) }
     ensures rules { IfOk result IsAsk }
+    ensures sized { IfOk result IsSized }
     ensures side { IfOk result AsksBootstrap }
 {
     let start = scn(alloc, query, 0, b"start")?;
@@ -193,6 +198,7 @@ fn scan(alloc: Global, query: &[u8]) -> Result<Ask, QueryFault>
 fn target(alloc: Global, query: &[u8]) -> Result<Ask, QueryFault>
     ensures asks { Asks result (target_in query.now) }
     ensures rules { IfOk result IsAsk }
+    ensures sized { IfOk result IsSized }
     ensures side { IfOk result AsksBootstrap }
 {
     let start = scn(alloc, query, 0, b"start")?;
@@ -204,6 +210,7 @@ fn target(alloc: Global, query: &[u8]) -> Result<Ask, QueryFault>
 fn catchup(alloc: Global, query: &[u8]) -> Result<Ask, QueryFault>
     ensures asks { Asks result (catchup_in query.now) }
     ensures rules { IfOk result IsAsk }
+    ensures sized { IfOk result IsSized }
     ensures side { IfOk result AsksBootstrap }
 {
     let at = scn(alloc, query, 0, b"at")?;
@@ -222,6 +229,7 @@ fn catchup(alloc: Global, query: &[u8]) -> Result<Ask, QueryFault>
 fn delta(alloc: Global, query: &[u8]) -> Result<Ask, QueryFault>
     ensures asks { Asks result (delta_in query.now) }
     ensures rules { IfOk result IsAsk }
+    ensures sized { IfOk result IsSized }
     ensures side { IfOk result AsksBootstrap }
 {
     let since = scn(alloc, query, 0, b"since")?;
@@ -243,6 +251,7 @@ fn delta(alloc: Global, query: &[u8]) -> Result<Ask, QueryFault>
 pub(crate) fn ask(alloc: Global, route: Route, query: &[u8]) -> Result<Ask, QueryFault>
     ensures asks { Asks result (ask_in route query.now) }
     ensures rules { IfOk result IsAsk }
+    ensures sized { IfOk result IsSized }
     ensures side { IfOk result (AsksBy route) }
 {
     match route {
