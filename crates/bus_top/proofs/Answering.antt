@@ -19,7 +19,7 @@ use Rattle.bus_wire.specs.True.{reply_of}
 use Rattle.client_switch.specs.Moves.{question}
 use Rattle.client_switch.specs.Moves.Wish.{NoWish}
 use Rattle.trace_script.specs.declared.line.Line.{Line}
-use Rattle.trace_script.specs.declared.line.Line.TheVariants.{Blank, Relay, Consumer, Commit, Feed, Log, Apply, Trim, RestartBoot, Poll, Crash, Stop, Show, Stream}
+use Rattle.trace_script.specs.declared.line.Line.TheVariants.{Blank, Relay, Consumer, Commit, Gen, Feed, Log, Apply, Trim, RestartBoot, Poll, Crash, Stop, Show, Sum, Stream}
 use Rattle.trace_script.specs.Spelling.{is_in_range}
 use Rattle.history_core.specs.Script.{Follower, State, floor}
 use Rattle.history_core.specs.Steps.{Step, begin, place_of, at_name, with_consumer, replied, after_reply, asked, poll_step, stream_step}
@@ -127,6 +127,7 @@ act_answered s Blank next text h e = tt
 act_answered s (Relay bytes windows) next text h e = tt
 act_answered s (Consumer name filter) next text h e = tt
 act_answered s (Commit scn changes) next text h e = tt
+act_answered s (Gen seed count) next text h e = tt
 act_answered s (Feed count) next text h e = tt
 act_answered s (Log count) next text h e = tt
 act_answered s (Apply count) next text h e = tt
@@ -136,6 +137,7 @@ act_answered s (Poll name max) next text h e = poll_answered s name max next tex
 act_answered s (Crash name) next text h e = tt
 act_answered s (Stop name after) next text h e = tt
 act_answered s (Show name) next text h e = tt
+act_answered s (Sum name) next text h e = tt
 act_answered s (Stream scn filter max) next text h e = stream_answered s scn filter max next text h e
 
 -- whoever asks the relay is answered so

@@ -13,13 +13,14 @@ use Rattle.partition_filter.specs.Selection.{test_of}
 use Rattle.bus_stores.specs.Memory.{stop_at}
 use Rattle.client_switch.specs.Moves.Wish.{NoWish}
 use Rattle.trace_script.specs.declared.line.Line.{Line}
-use Rattle.trace_script.specs.declared.line.Line.TheVariants.{Blank, Relay, Consumer, Commit, Feed, Log, Apply, Trim, RestartBoot, Poll, Crash, Stop, Show, Stream}
+use Rattle.trace_script.specs.declared.line.Line.TheVariants.{Blank, Relay, Consumer, Commit, Gen, Feed, Log, Apply, Trim, RestartBoot, Poll, Crash, Stop, Show, Sum, Stream}
+use Rattle.trace_script.specs.Generated.{generated}
 use Rattle.trace_script.specs.Lines.{line_of}
 use Rattle.trace_script.specs.Spelling.{is_in_range}
 use Rattle.trace_script.specs.Input.{RawLine, is_too_long}
 use Rattle.trace_script.specs.Printed.{gap_line}
-use Rattle.history_core.specs.Script.{Follower, State, floor, shown}
-use Rattle.history_core.specs.Steps.{Step, begin, place_of, at_name, with_consumer, booted, logged, next_window, fed, asked, looked_at, relay_step, consumer_step, commit_step, feed_step, log_step, apply_step, trim_step, restart_step, poll_step, crash_step, stop_step, show_step, stream_step}
+use Rattle.history_core.specs.Script.{Follower, State, floor, shown, summed}
+use Rattle.history_core.specs.Steps.{Step, begin, place_of, at_name, with_consumer, booted, logged, next_window, fed, asked, looked_at, relay_step, consumer_step, commit_step, gen_step, feed_step, log_step, apply_step, trim_step, restart_step, poll_step, crash_step, stop_step, show_step, sum_step, stream_step}
 use Rattle.history_core.specs.Run.{act, line_step, text_step, TooLongAt, Played, ended, play_on, played}
 
 -- the SCN of the newest published window is one of the source's, or 0
@@ -33,12 +34,12 @@ either P false x y p q = q
 
 -- ---- places
 
--- a place stays one where a window is added
-place_push : (n : ℕ) (ws : List Span) (w : Span) → is_place n ws ≡ true → is_place n (ws ++ w ∷ []) ≡ true
-place_push n ws w h =
+-- a place stays one where windows are added
+place_push : (n : ℕ) (ws more : List Span) → is_place n ws ≡ true → is_place n (ws ++ more) ≡ true
+place_push n ws more h =
     let parts = parted_at 0 n ws h in
-    let whole : parts.front ++ (parts.back ++ w ∷ []) ≡ ws ++ w ∷ [] = sym (append_assoc parts.front parts.back (w ∷ [])) ∙ ap (λ (l : List Span). l ++ w ∷ []) parts.whole in
-    (λ i. is_place (sym parts.end i) (sym whole i)) ∙ end_is_place 0 parts.front (parts.back ++ w ∷ [])
+    let whole : parts.front ++ (parts.back ++ more) ≡ ws ++ more = sym (append_assoc parts.front parts.back more) ∙ ap (λ (l : List Span). l ++ more) parts.whole in
+    (λ i. is_place (sym parts.end i) (sym whole i)) ∙ end_is_place 0 parts.front (parts.back ++ more)
 
 -- the end of the first windows of a stretch is where they begin, or the SCN of one of them
 among : (from k low high : ℕ) (ws : List Span) → list_any (λ m. m == end_from from (take k (windows_between low high ws))) (from ∷ map (λ w. w.scn) ws) ≡ true
@@ -96,11 +97,12 @@ leads_named s name step h = found (place_of name s.consumers)
     found (Some i) = done i (slice_get s.consumers i)
 
 leads_act : (s : State) (line : Line) → IsPlaced s → Leads (act s line)
-unfolding relay_step consumer_step commit_step feed_step log_step apply_step trim_step restart_step poll_step crash_step stop_step show_step stream_step
+unfolding relay_step consumer_step commit_step gen_step feed_step log_step apply_step trim_step restart_step poll_step crash_step stop_step show_step sum_step stream_step
 leads_act s Blank h = leads_some s [] h
 leads_act s (Relay bytes windows) h = leads_begin (relay_step s bytes windows) (either Leads _ _ _ leads_none (leads_some _ _ h))
 leads_act s (Consumer name filter) h = leads_begin (consumer_step s name filter) (either Leads _ _ _ leads_none (leads_some _ _ h))
-leads_act s (Commit scn changes) h = leads_begin (commit_step s scn changes) (either Leads _ _ _ leads_none (either Leads _ _ _ leads_none (leads_some _ _ (place_push s.end s.windows (next_window s scn changes) h))))
+leads_act s (Commit scn changes) h = leads_begin (commit_step s scn changes) (either Leads _ _ _ leads_none (either Leads _ _ _ leads_none (leads_some _ _ (place_push s.end s.windows (next_window s scn changes ∷ []) h))))
+leads_act s (Gen seed count) h = leads_begin (gen_step s seed count) (either Leads _ _ _ leads_none (either Leads _ _ _ leads_none (leads_some _ _ (place_push s.end s.windows (generated count seed (end_of s.windows)) h))))
 leads_act s (Feed count) h = leads_begin (feed_step s count) (leads_some _ _ (place_fed s count h))
 leads_act s (Log count) h =
     leads_begin (log_step s count) (either (λ (r : State × List ℕ). Leads (Some r)) (nat_lt s.boot.high (floor s)) (s, gap_line (floor s)) (booted s (record s.boot { high = logged s count })) (leads_some s _ h) (leads_some _ _ h))
@@ -111,6 +113,7 @@ leads_act s (Poll name max) h = leads_begin (poll_step s name max) (leads_named 
 leads_act s (Crash name) h = leads_begin (crash_step s name) (leads_named s name (λ c. (record c { wish = NoWish }, [])) h)
 leads_act s (Stop name after) h = leads_begin (stop_step s name (stop_at after)) (leads_named s name (λ c. (record c { armed = Some (stop_at after) }, [])) h)
 leads_act s (Show name) h = leads_begin (show_step s name) (leads_named s name (λ c. (looked_at c.mark c, shown s.windows c c.mark)) h)
+leads_act s (Sum name) h = leads_begin (sum_step s name) (leads_named s name (λ c. (looked_at c.mark c, summed s.windows c c.mark)) h)
 leads_act s (Stream scn filter max) h = leads_begin (stream_step s scn (test_of filter) max) (leads_some _ _ h)
 
 leads_line : (s : State) (line : Line) → IsPlaced s → Leads (line_step s line)

@@ -32,13 +32,13 @@ use Rattle.bus_types.specs.Latest.{last_changes, changes_after}
 use Rattle.event_codec.specs.Chunks.{items_within, frame_size, chunk_of, puts_of}
 use Rattle.bus_wire.specs.True.{Boot, reply_of, replay_of, boot_reply}
 use Rattle.trace_script.specs.declared.line.Line.{Line}
-use Rattle.trace_script.specs.declared.line.Line.TheVariants.{Blank, Relay, Consumer, Commit, Feed, Log, Apply, Trim, RestartBoot, Poll, Crash, Stop as StopLine, Show, Stream}
+use Rattle.trace_script.specs.declared.line.Line.TheVariants.{Blank, Relay, Consumer, Commit, Gen, Feed, Log, Apply, Trim, RestartBoot, Poll, Crash, Stop as StopLine, Show, Sum, Stream}
 use Rattle.trace_script.specs.Lines.{line_of}
 use Rattle.trace_script.specs.Spelling.{is_in_range}
 use Rattle.trace_script.specs.Input.{RawLine, is_too_long}
-use Rattle.history_core.specs.Script.{Follower, State, floor, reply_text, shown}
+use Rattle.history_core.specs.Script.{Follower, State, floor, reply_text, shown, summed}
 use Rattle.trace_script.specs.Printed.{gap_line}
-use Rattle.history_core.specs.Steps.{Step, begin, place_of, at_name, with_consumer, booted, logged, replied, committed, turned, asked, looked_at, relay_step, consumer_step, commit_step, feed_step, log_step, apply_step, trim_step, restart_step, poll_step, crash_step, stop_step, show_step, stream_step}
+use Rattle.history_core.specs.Steps.{Step, begin, place_of, at_name, with_consumer, booted, logged, replied, committed, turned, asked, looked_at, relay_step, consumer_step, commit_step, gen_step, feed_step, log_step, apply_step, trim_step, restart_step, poll_step, crash_step, stop_step, show_step, sum_step, stream_step}
 use Rattle.history_core.specs.Run.{act, line_step, text_step, TooLongAt, Played, ended, play_on, played, IsForward, AreForward, GoOn}
 
 -- what holds of both values holds of the choice
@@ -289,11 +289,12 @@ leads_named s name step h f = found (place_of name s.consumers)
     found (Some i) = done i (slice_get s.consumers i) refl
 
 leads_act : (s : State) (line : Line) → AreForward s.consumers → Leads s (act s line)
-unfolding relay_step consumer_step commit_step feed_step log_step apply_step trim_step restart_step poll_step crash_step stop_step show_step stream_step
+unfolding relay_step consumer_step commit_step gen_step feed_step log_step apply_step trim_step restart_step poll_step crash_step stop_step show_step sum_step stream_step
 leads_act s Blank h = leads_some s s [] (go_on_same s.consumers, h)
 leads_act s (Relay bytes windows) h = leads_begin s (relay_step s bytes windows) (either (Leads s) _ _ _ (leads_none s) (leads_some s _ _ (go_on_same s.consumers, h)))
 leads_act s (Consumer name filter) h = leads_begin s (consumer_step s name filter) (either (Leads s) _ _ _ (leads_none s) (leads_some s _ _ (go_on_push s.consumers _, forward_push s.consumers _ h tt)))
 leads_act s (Commit scn changes) h = leads_begin s (commit_step s scn changes) (either (Leads s) _ _ _ (leads_none s) (either (Leads s) _ _ _ (leads_none s) (leads_some s _ _ (go_on_same s.consumers, h))))
+leads_act s (Gen seed count) h = leads_begin s (gen_step s seed count) (either (Leads s) _ _ _ (leads_none s) (either (Leads s) _ _ _ (leads_none s) (leads_some s _ _ (go_on_same s.consumers, h))))
 leads_act s (Feed count) h = leads_begin s (feed_step s count) (leads_some s _ _ (go_on_same s.consumers, h))
 leads_act s (Log count) h =
     leads_begin s (log_step s count)
@@ -305,6 +306,7 @@ leads_act s (Poll name most) h = leads_begin s (poll_step s name most) (leads_na
 leads_act s (Crash name) h = leads_begin s (crash_step s name) (leads_named s name (λ c. (record c { wish = NoWish }, [])) h (λ c f. (refl, refl, passes_same c.mark f)))
 leads_act s (StopLine name after) h = leads_begin s (stop_step s name (stop_at after)) (leads_named s name (λ c. (record c { armed = Some (stop_at after) }, [])) h (λ c f. (refl, refl, passes_same c.mark f)))
 leads_act s (Show name) h = leads_begin s (show_step s name) (leads_named s name (λ c. (looked_at c.mark c, shown s.windows c c.mark)) h (λ c f. looked_follows c.mark c f))
+leads_act s (Sum name) h = leads_begin s (sum_step s name) (leads_named s name (λ c. (looked_at c.mark c, summed s.windows c c.mark)) h (λ c f. looked_follows c.mark c f))
 leads_act s (Stream scn filter most) h = leads_begin s (stream_step s scn (test_of filter) most) (leads_some s _ _ (go_on_same s.consumers, h))
 
 leads_line : (s : State) (line : Line) → AreForward s.consumers → Leads s (line_step s line)

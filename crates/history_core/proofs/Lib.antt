@@ -6,5 +6,7 @@ pub mod LogTakes
 pub mod BootMoves
 pub mod Sound
 pub mod Forward
+pub mod Generating
+pub mod Summing
 pub mod Replying
 pub mod Polling

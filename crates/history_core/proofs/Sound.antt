@@ -24,14 +24,14 @@ use Rattle.client_switch.specs.Moves.{question}
 use Rattle.client_switch.specs.Moves.Wish.{NoWish}
 use Rattle.client_switch.proofs.Growing.{good_stays}
 use Rattle.trace_script.specs.declared.line.Line.{Line}
-use Rattle.trace_script.specs.declared.line.Line.TheVariants.{Show}
+use Rattle.trace_script.specs.declared.line.Line.TheVariants.{Show, Sum}
 use Rattle.trace_script.specs.Printed.{relay_line}
-use Rattle.history_core.specs.Script.{Follower, State, floor, stream_line, shown}
-use Rattle.history_core.specs.Steps.{Step, place_of, at_name, with_consumer, most_consumers, most_commits, new_follower, next_window, fed, replied, after_reply, asked, looked_at, relay_step, consumer_step, commit_step, feed_step, stream_step, poll_step, crash_step, stop_step, show_step}
+use Rattle.history_core.specs.Script.{Follower, State, floor, stream_line, shown, summed}
+use Rattle.history_core.specs.Steps.{Step, place_of, at_name, with_consumer, most_consumers, most_commits, new_follower, next_window, fed, replied, after_reply, asked, looked_at, relay_step, consumer_step, commit_step, feed_step, stream_step, poll_step, crash_step, stop_step, show_step, sum_step}
 use Rattle.history_core.specs.declared.fault.StepFault.{StepFault}
 use Rattle.history_core.specs.declared.fault.StepFault.TheVariants.{BadLine, WriteFault, NoMemory}
 use Rattle.history_core.specs.Bus.{MemberState, Parts, follower, followers, boot_numbers, state_of, IsHeaded, IsMember, IsBooted, IsSound, WasCalled, Calls}
-use Rattle.history_core.specs.Acting.{IsWorking, Becomes, Polls, Shows, Publishes, Acts}
+use Rattle.history_core.specs.Acting.{IsWorking, Becomes, Polls, Shows, Sums, Publishes, Acts}
 use Rattle.history_core.specs.Booting.{BootedAt}
 use Rattle.history_core.proofs.Booted.{place_within, place_stays, booted_stays}
 
@@ -261,6 +261,13 @@ seen b i name m n text h f s =
     let printed = s.printed in
     changed_at b i name (λ j c. (with_consumer (state_of b) j (looked_at c.mark c), shown b.source c c.mark)) m n next text h f (λ j. (with_consumer (state_of b) i next, sym printed j)) (record { follows = s.follows; member = s.member })
 
+pub summed_at : (b : Parts) (i : ℕ) (name : List ℕ) (m n : MemberState) (text : List ℕ) → IsSound b → IsFoundAt b.members name i m → Sums b.source m n text → Did (sum_step (state_of b) name) (record b { members = slice_set b.members i n }) text
+unfolding sum_step
+summed_at b i name m n text h f s =
+    let next : Follower = looked_at m.client.mark (follower m) in
+    let printed = s.printed in
+    changed_at b i name (λ j c. (with_consumer (state_of b) j (looked_at c.mark c), summed b.source c c.mark)) m n next text h f (λ j. (with_consumer (state_of b) i next, sym printed j)) (record { follows = s.follows; member = s.member })
+
 -- what is set at a place stands there
 set_there : (ms : List MemberState) (i : ℕ) (m n : MemberState) → slice_get ms i ≡ Some m → slice_get (slice_set ms i n) i ≡ Some n
 set_there [] i m n at = absurd cc
@@ -278,4 +285,5 @@ called_at ms name i m n f called j old new place at set =
 -- what a line calls shows in the consumers alone
 pub calls_same : (line : Line) (first b d : Parts) → d.members ≡ b.members → Calls line first b → Calls line first d
 calls_same (Show name) first b d same h = λ i m n place at new. h i m n place at (ap (λ (ms : List MemberState). slice_get ms i) (sym same) ∙ new)
+calls_same (Sum name) first b d same h = λ i m n place at new. h i m n place at (ap (λ (ms : List MemberState). slice_get ms i) (sym same) ∙ new)
 calls_same line first b d same h = tt

@@ -19,7 +19,7 @@ use Rattle.client_switch.specs.Moves.Wish.{NoWish}
 use Rattle.client_switch.specs.Client.{IsStored}
 use Rattle.history_core.specs.declared.fault.StepFault.{StepFault}
 use Rattle.history_core.specs.declared.fault.StepFault.TheVariants.{BadLine, WriteFault, NoMemory}
-use Rattle.history_core.specs.Script.{Follower, shown}
+use Rattle.history_core.specs.Script.{Follower, shown, summed}
 use Rattle.history_core.specs.Steps.{Step, most_commits, replied, after_reply, looked_at}
 use Rattle.history_core.specs.Bus.{MemberState, Parts, follower, state_of, IsMember, IsBooted, IsSound, WasCalled}
 
@@ -65,6 +65,13 @@ pub record Polls (ws : List Span) (r : Relay) (boot : Boot) (most : ℕ) (text :
 -- a consumer was shown
 pub record Shows (ws : List Span) (old new : MemberState) (text : List ℕ) : Type 0 where
   pub printed : text ≡ shown ws (follower old) old.client.mark
+  pub follows : follower new ≡ looked_at old.client.mark (follower old)
+  pub member : IsMember ws new
+  pub called : WasCalled old new
+
+-- a consumer was summed
+pub record Sums (ws : List Span) (old new : MemberState) (text : List ℕ) : Type 0 where
+  pub printed : text ≡ summed ws (follower old) old.client.mark
   pub follows : follower new ≡ looked_at old.client.mark (follower old)
   pub member : IsMember ws new
   pub called : WasCalled old new

@@ -16,7 +16,7 @@ use Rattle.client_switch.specs.Moves.{IsWished}
 use Rattle.client_switch.specs.Good.{Good}
 use Rattle.client_switch.specs.Client.{Held, IsStored}
 use Rattle.trace_script.specs.declared.line.Line.{Line}
-use Rattle.trace_script.specs.declared.line.Line.TheVariants.{Show}
+use Rattle.trace_script.specs.declared.line.Line.TheVariants.{Show, Sum}
 use Rattle.history_core.specs.declared.fault.StepFault.{StepFault}
 use Rattle.history_core.specs.declared.fault.StepFault.TheVariants.{BadLine, WriteFault, NoMemory}
 use Rattle.history_core.specs.Script.{Follower, State}
@@ -157,8 +157,13 @@ OnOnline (Catchup since start target at) P = Unit {0}
 abbrev pub WasCalled : MemberState → MemberState → Type 0
 WasCalled m n = OnOnline m.client.mark (WasCounted m.store.calls n.store.calls)
 
--- a line that shows a consumer's rows calls its keeper
-abbrev pub Calls : Line → Parts → Parts → Type 0
-Calls (Show name) old new = (i : ℕ) (m n : MemberState) → place_of name (followers old.members) ≡ Some i
+-- the keeper of the consumer of this name was called
+abbrev pub CallsAt : List ℕ → Parts → Parts → Type 0
+CallsAt name old new = (i : ℕ) (m n : MemberState) → place_of name (followers old.members) ≡ Some i
     → slice_get old.members i ≡ Some m → slice_get new.members i ≡ Some n → WasCalled m n
+
+-- a line that shows or sums a consumer's rows calls its keeper
+abbrev pub Calls : Line → Parts → Parts → Type 0
+Calls (Show name) old new = CallsAt name old new
+Calls (Sum name) old new = CallsAt name old new
 Calls line old new = Unit {0}

@@ -6,12 +6,12 @@ use Rattle.checkpoint.specs.Mark.{floor_of}
 use Rattle.bus_stores.specs.Memory.{stop_at}
 use Rattle.partition_filter.specs.Selection.{test_of}
 use Rattle.trace_script.specs.declared.line.Line.{Line}
-use Rattle.trace_script.specs.declared.line.Line.TheVariants.{Blank, Relay, Consumer, Commit, Feed, Log, Apply, Trim, RestartBoot, Poll, Crash, Stop, Show, Stream}
+use Rattle.trace_script.specs.declared.line.Line.TheVariants.{Blank, Relay, Consumer, Commit, Gen, Feed, Log, Apply, Trim, RestartBoot, Poll, Crash, Stop, Show, Sum, Stream}
 use Rattle.trace_script.specs.Lines.{line_of}
 use Rattle.trace_script.specs.Spelling.{is_in_range}
 use Rattle.trace_script.specs.Input.{RawLine, lines_of, is_too_long}
 use Rattle.history_core.specs.Script.{Follower, State, start}
-use Rattle.history_core.specs.Steps.{Step, begin, relay_step, consumer_step, commit_step, feed_step, stream_step, log_step, apply_step, trim_step, restart_step, poll_step, crash_step, stop_step, show_step}
+use Rattle.history_core.specs.Steps.{Step, begin, relay_step, consumer_step, commit_step, gen_step, feed_step, stream_step, log_step, apply_step, trim_step, restart_step, poll_step, crash_step, stop_step, show_step, sum_step}
 
 -- whether a line is blank
 abbrev pub is_blank : Line → Bool
@@ -19,6 +19,7 @@ is_blank Blank = true
 is_blank (Relay bytes windows) = false
 is_blank (Consumer name filter) = false
 is_blank (Commit scn changes) = false
+is_blank (Gen seed count) = false
 is_blank (Feed count) = false
 is_blank (Log count) = false
 is_blank (Apply count) = false
@@ -28,6 +29,7 @@ is_blank (Poll name max) = false
 is_blank (Crash name) = false
 is_blank (Stop name after) = false
 is_blank (Show name) = false
+is_blank (Sum name) = false
 is_blank (Stream scn filter max) = false
 
 -- what each line does of its own; a blank one does nothing
@@ -36,6 +38,7 @@ effect s Blank = Some (s, [])
 effect s (Relay bytes windows) = relay_step s bytes windows
 effect s (Consumer name filter) = consumer_step s name filter
 effect s (Commit scn changes) = commit_step s scn changes
+effect s (Gen seed count) = gen_step s seed count
 effect s (Feed count) = feed_step s count
 effect s (Log count) = log_step s count
 effect s (Apply count) = apply_step s count
@@ -45,6 +48,7 @@ effect s (Poll name max) = poll_step s name max
 effect s (Crash name) = crash_step s name
 effect s (Stop name after) = stop_step s name (stop_at after)
 effect s (Show name) = show_step s name
+effect s (Sum name) = sum_step s name
 effect s (Stream scn filter max) = stream_step s scn (test_of filter) max
 
 -- what a line does whose numbers are in their ranges: a blank one nothing, and any other begins the script

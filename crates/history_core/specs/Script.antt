@@ -1,5 +1,6 @@
 -- The state of a script, and what is printed of it.
-use Rattle.std.specs.Prelude.{ℕ, ◌+◌, Bool, false, List, [], ◌++◌, length, flat_map, codes, decimal, Option}
+use Rattle.std.specs.Prelude.{ℕ, ◌+◌, Bool, false, List, [], ◌∷◌, ◌++◌, length, flat_map, codes, decimal, Option}
+use Rattle.std.specs.Int.{w64, to_be_bytes}
 use Rattle.hex.specs.Hex.{encode_lower}
 use Rattle.bus_types.specs.declared.change.RowName.{RowName}
 use Rattle.bus_types.specs.Change.{key_text, changes_size}
@@ -7,6 +8,7 @@ use Rattle.bus_types.specs.Window.{Span}
 use Rattle.bus_types.specs.Timeline.{end_of, total_size}
 use Rattle.bus_types.specs.Table.{RowList}
 use Rattle.bus_types.specs.View.{view}
+use Rattle.bus_types.specs.Fnv.{fnv1a_of}
 use Rattle.bus_types.specs.Relay.{Room, floor_of, Served}
 use Rattle.bus_types.specs.Relay.Served.{NotFound as NoWindow, Empty as NothingNew, TooSmall as TooLarge, Windows as SomeWindows}
 use Rattle.event_codec.specs.Chunks.{frame_size}
@@ -116,3 +118,30 @@ shown ws c (Delta since target cursor) = codes "show " ++ c.name ++ codes " delt
 shown ws c (Snapshot since begins top cursor) = codes "show " ++ c.name ++ codes " snapshot\n"
 shown ws c (Scanned since begins top) = codes "show " ++ c.name ++ codes " scanned\n"
 shown ws c (Catchup since begins target at) = codes "show " ++ c.name ++ codes " catchup\n"
+
+-- the payloads' bytes in sum
+abbrev pub rows_size : RowList → ℕ
+rows_size [] = 0
+rows_size (row ∷ rows) = length row.1 + rows_size rows
+
+-- a hash in 16 lower-case digits
+abbrev pub hash_text : ℕ → List ℕ
+hash_text hash = encode_lower (to_be_bytes w64 hash)
+
+abbrev pub sum_numbers : ℕ → ℕ → ℕ → List ℕ → List ℕ
+sum_numbers scn count size hash = codes " online " ++ decimal scn ++ codes " " ++ decimal count ++ codes " " ++ decimal size ++ codes " " ++ hash ++ codes "\n"
+
+abbrev pub sum_line : List ℕ → ℕ → ℕ → ℕ → List ℕ → List ℕ
+sum_line name scn count size hash = codes "sum " ++ name ++ sum_numbers scn count size hash
+
+-- the number of the rows, the bytes of their payloads, and the hash of their lines
+abbrev pub sum_text : List ℕ → ℕ → RowList → List ℕ
+sum_text name scn rows = sum_line name scn (length rows) (rows_size rows) (hash_text (fnv1a_of (flat_map row_line rows)))
+
+-- the summary of a consumer: online, its SCN and that of the view there; else its mode alone
+abbrev pub summed : List Span → Follower → Mark → List ℕ
+summed ws c (Online scn) = sum_text c.name scn (view (test_of c.filter) ws scn)
+summed ws c (Delta since target cursor) = codes "sum " ++ c.name ++ codes " delta\n"
+summed ws c (Snapshot since begins top cursor) = codes "sum " ++ c.name ++ codes " snapshot\n"
+summed ws c (Scanned since begins top) = codes "sum " ++ c.name ++ codes " scanned\n"
+summed ws c (Catchup since begins target at) = codes "sum " ++ c.name ++ codes " catchup\n"

@@ -17,7 +17,8 @@ use Rattle.client_switch.specs.Moves.{Turn, question, turn}
 use Rattle.client_switch.specs.Moves.Wish.{NoWish}
 use Rattle.event_codec.specs.Questions.Question.{Stream, Start, Scan, Target, Catchup, Delta}
 use Rattle.bus_wire.specs.True.{Boot, reply_of, boot_reply}
-use Rattle.history_core.specs.Script.{Follower, State, floor, numbers_line, stream_line, reply_text, stopped_line, shown}
+use Rattle.history_core.specs.Script.{Follower, State, floor, numbers_line, stream_line, reply_text, stopped_line, shown, summed}
+use Rattle.trace_script.specs.Generated.{generated}
 use Rattle.trace_script.specs.Printed.{relay_line, gap_line}
 
 -- what a line leaves: the state after it and the text that it prints, or nothing where it is against a rule
@@ -77,6 +78,17 @@ commit_step s scn changes =
     if is_some (window_fault w) then None
     else if nat_le most_commits (length s.windows) then None
     else Some (record s { windows = s.windows ++ w ∷ [] }, [])
+
+-- behind this SCN there is room for the windows of a line
+abbrev pub last_generated : ℕ
+last_generated = 9223372036854475807
+
+-- windows are made and committed: not where an SCN or the number of windows could come to be too great
+unfoldable pub gen_step : State → ℕ → ℕ → Step
+gen_step s seed count =
+    if nat_lt last_generated (end_of s.windows) then None
+    else if nat_lt most_commits (length s.windows + count) then None
+    else Some (record s { windows = s.windows ++ generated count seed (end_of s.windows) }, [])
 
 -- the SCN of the last of the first so many windows behind an SCN up to another, or the SCN
 abbrev pub end_after : List Span → ℕ → ℕ → ℕ → ℕ
@@ -183,3 +195,6 @@ looked_at mark c = c
 
 unfoldable pub show_step : State → List ℕ → Step
 show_step s name = at_name s name (λ i c. (with_consumer s i (looked_at c.mark c), shown s.windows c c.mark))
+
+unfoldable pub sum_step : State → List ℕ → Step
+sum_step s name = at_name s name (λ i c. (with_consumer s i (looked_at c.mark c), summed s.windows c c.mark))

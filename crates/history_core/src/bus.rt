@@ -6,13 +6,14 @@ ghost use Rattle.bus_stores.specs.Memory.{stop_at};
 ghost use Rattle.trace_script.specs.declared.line.Line.{Line};
 ghost use Rattle.trace_script.specs.Spelling.{is_in_range};
 ghost use Rattle.history_core.specs.Script.{start};
-ghost use Rattle.history_core.specs.Steps.{Step, begin, place_of, relay_step, consumer_step, commit_step, feed_step, log_step, apply_step, trim_step, restart_step, stream_step, poll_step, crash_step, stop_step, show_step};
+ghost use Rattle.history_core.specs.Steps.{Step, begin, place_of, relay_step, consumer_step, commit_step, gen_step, last_generated, feed_step, log_step, apply_step, trim_step, restart_step, stream_step, poll_step, crash_step, stop_step, show_step, sum_step};
 ghost use Rattle.history_core.specs.Run.{is_blank, effect, act, line_step};
 ghost use Rattle.history_core.specs.Bus.{Parts, state_of, followers, IsSound, Steps, OnWriteFault, Calls};
 ghost use Rattle.history_core.specs.Acting.{Acts, Does, Publishes};
 
 use crate::boot::{MemoryBoot, apply_windows, log_windows, new_boot, restart, trim};
 use crate::fault::StepFault;
+use crate::generate::commit_generated;
 use crate::member::Member;
 use crate::text;
 use bus_io::{Sink, write_all};
@@ -30,6 +31,9 @@ const MOST_CONSUMERS: usize = 64;
 
 /// The most windows of a script.
 const MOST_COMMITS: u64 = 1_000_000;
+
+/// The greatest SCN behind which windows are made: those of one line end at most 300,000 above it.
+const LAST_GENERATED: u64 = 9_223_372_036_854_475_807;
 
 /// A source, a relay over any buffer, a bootstrap over a log and a keeper in memory, and consumers that follow the source, each with a
 /// client and a keeper of its rows and its mark in memory. Contracts see the source's windows, the relay, and what log,
@@ -185,6 +189,7 @@ impl<B: Buffer + Drop> Bus<B> {
             Line::Relay { bytes, windows } => self.set_room(alloc, *bytes, *windows),
             Line::Consumer { name, filter } => self.declare(alloc, *name, filter),
             Line::Commit { scn, changes } => self.commit_copy(alloc, *scn, changes),
+            Line::Gen { seed, count } => self.generate(alloc, *seed, *count),
             Line::Feed(count) => self.feed(alloc, *count),
             Line::Log(count) => self.log(alloc, *count),
             Line::Apply(count) => self.apply(alloc, *count),
@@ -195,6 +200,7 @@ impl<B: Buffer + Drop> Bus<B> {
             Line::Crash(name) => self.crash(alloc, name),
             Line::Stop { name, after } => self.stop(alloc, name, *after),
             Line::Show(name) => self.show(alloc, name),
+            Line::Sum(name) => self.sum(alloc, name),
         }
     }
 
@@ -276,6 +282,23 @@ impl<B: Buffer + Drop> Bus<B> {
     {
         let copy = Changes::new(copy_changes(alloc, changes.items())?);
         self.commit(alloc, scn, copy)
+    }
+
+    // The source commits windows that are made from a number.
+    #[tactic(auto, unfolding(crate::specs::Steps::gen_step))]
+    fn generate(&mut self, alloc: Global, seed: u32, count: u32) -> Result<Vec<u8>, StepFault>
+        requires sound { IsSound self.old }
+        requires few { count ≤ 100000 }
+        ensures { Acts result (gen_step (state_of self.old) seed count) self.old self.new }
+    {
+        if self.source.last() > LAST_GENERATED {
+            return Err(StepFault::BadLine);
+        }
+        if self.source.count() + u64::from(count) > MOST_COMMITS {
+            return Err(StepFault::BadLine);
+        }
+        commit_generated(alloc, &mut self.source, seed, count)?;
+        Ok(Vec::new(alloc))
     }
 
     // The relay publishes the next commits.
@@ -401,6 +424,20 @@ impl<B: Buffer + Drop> Bus<B> {
         };
         let member = &mut self.members[i];
         Ok(member.show(alloc)?)
+    }
+
+    // The summary of what a consumer has.
+    #[tactic(auto, unfolding(crate::specs::Steps::sum_step))]
+    fn sum(&mut self, alloc: Global, name: &Name) -> Result<Vec<u8>, StepFault>
+        requires { IsSound self.old }
+        ensures acts { Acts result (sum_step (state_of self.old) name.now) self.old self.new }
+        ensures calls { OnOk result (Calls (Line.Sum name.now) self.old self.new) }
+    {
+        let Some(i) = place(&self.members, name.bytes()) else {
+            return Err(StepFault::BadLine);
+        };
+        let member = &mut self.members[i];
+        Ok(member.sum(alloc)?)
     }
 }
 

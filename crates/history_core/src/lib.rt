@@ -7,10 +7,12 @@
 mod boot;
 mod bus;
 mod fault;
+mod generate;
 mod laws;
 mod member;
 mod poll;
 mod rows;
+mod sum;
 mod text;
 mod worked;
 
@@ -22,4 +24,4 @@ pub use rows::{
     worked_scripts_of_a_bootstrap, worked_scripts_of_a_delta, worked_scripts_of_a_relay,
     worked_scripts_of_stops, worked_scripts_of_streams,
 };
-pub use worked::{worked_steps, worked_steps_of_a_bootstrap};
+pub use worked::{worked_steps, worked_steps_of_a_bootstrap, worked_steps_of_generated_windows};

@@ -7,9 +7,9 @@ ghost use Rattle.client_switch.specs.Moves.Wish.{NoWish};
 ghost use Rattle.client_switch.specs.Client.{IsStored};
 ghost use Rattle.history_core.specs.Steps.{new_follower};
 ghost use Rattle.history_core.specs.Bus.{follower, IsMember};
-ghost use Rattle.history_core.specs.Acting.{WasRead, IsReopened, Becomes, Shows};
+ghost use Rattle.history_core.specs.Acting.{WasRead, IsReopened, Becomes, Shows, Sums};
 
-use crate::text;
+use crate::{sum, text};
 use bus_stores::{MemoryKeeper, StoreFault, all_rows};
 use bus_types::{NoMemory, Rows};
 use checkpoint::Mark;
@@ -122,6 +122,32 @@ impl Member {
             Mark::Scanned { .. } => text::mode(alloc, self.name.bytes(), b" scanned\n"),
             Mark::Catchup { .. } => text::mode(alloc, self.name.bytes(), b" catchup\n"),
         }
+    }
+
+    /// The summary of it: online, its SCN and that of its rows; else what it is at. After want of memory it isn't used
+    /// again.
+    pub fn sum(&mut self, alloc: Global) -> Result<Vec<u8>, NoMemory>
+        requires { (ws : List Span) × IsMember ws self.old }
+        ensures { IfOk result (λ text. (ws : List Span) → IsMember ws self.old → Sums ws self.old self.new text.items) }
+    {
+        match *self.client.mark() {
+            Mark::Online { scn } => self.sum_rows(alloc, scn),
+            Mark::Delta { .. } => sum::mode(alloc, self.name.bytes(), b" delta\n"),
+            Mark::Snapshot { .. } => sum::mode(alloc, self.name.bytes(), b" snapshot\n"),
+            Mark::Scanned { .. } => sum::mode(alloc, self.name.bytes(), b" scanned\n"),
+            Mark::Catchup { .. } => sum::mode(alloc, self.name.bytes(), b" catchup\n"),
+        }
+    }
+
+    // The SCN and the summary of the rows of who is online.
+    fn sum_rows(&mut self, alloc: Global, scn: u64) -> Result<Vec<u8>, NoMemory>
+        requires online { self.old.client.mark ≡ Mark.Online scn }
+        requires member { (ws : List Span) × IsMember ws self.old }
+        ensures { IfOk result (λ text. (ws : List Span) → IsMember ws self.old → Sums ws self.old self.new text.items) }
+    {
+        let kept = rows_of(alloc, &mut self.keeper)?;
+        self.shows = self.shows.saturating_add(1);
+        sum::rows(alloc, self.name.bytes(), scn, kept.items())
     }
 
     // The SCN and the rows of who is online.

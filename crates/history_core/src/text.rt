@@ -102,8 +102,8 @@ fn heading(alloc: Global, name: &[u8], scn: u64, count: usize) -> Result<Vec<u8>
     Ok(text)
 }
 
-// Appends the line of a row.
-fn put_row(alloc: Global, text: &mut Vec<u8>, row: &Row) -> Result<(), NoMemory>
+/// Appends the line of a row.
+pub(crate) fn put_row(alloc: Global, text: &mut Vec<u8>, row: &Row) -> Result<(), NoMemory>
     ensures { OnOk result (text.new.items ≡ text.old.items ++ row_line (pair_of row.now)) }
 {
     let Key::Long(key) = row.key;

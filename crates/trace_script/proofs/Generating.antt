@@ -3,9 +3,10 @@ use Rattle.std.proofs.Common.{◌≡◌, ℕ, zero, suc, ◌+◌, ◌-◌, ◌*�
 use Rattle.std.proofs.lemmas.Bool.{or_from, ne_eqb, le-ltb, lt-leb}
 use Rattle.bus_types.specs.declared.change.Change.{Change}
 use Rattle.bus_types.specs.declared.window.WindowFault.{WindowFault}
-use Rattle.bus_types.specs.declared.limits.TheConstants.{MAX_SCN, MAX_CHANGES, MAX_WINDOW}
-use Rattle.bus_types.specs.Change.{payload_size, changes_size}
+use Rattle.bus_types.specs.declared.limits.TheConstants.{MAX_SCN, MAX_PAYLOAD, MAX_CHANGES, MAX_WINDOW}
+use Rattle.bus_types.specs.Change.{payload_size, changes_size, AreChanges}
 use Rattle.bus_types.specs.Window.{Span, span_size, bad_scn, window_fault}
+use Rattle.bus_types.specs.Timeline.{Follows}
 use Rattle.trace_script.specs.Generated.{drawn, next_state, bytes_from, put_of, generated_change, generated_changes, after_change, after_changes, above, count_of, generated_window, after_window}
 
 -- ---- bytes
@@ -137,3 +138,25 @@ window_facts x last = record { chained = refl; full = omega (arith, changes_many
 
 pub made_facts : (x last : ℕ) (w : Span) → w ≡ generated_window x last → Facts last w
 made_facts x last w made = subst (Facts last) (sym made) (window_facts x last)
+
+-- ---- timelines
+
+put_fits : (b c : ℕ) → payload_size (put_of b c) ≤ MAX_PAYLOAD
+put_fits b c = omega (arith, put_short b c)
+
+changes_fit : (n x : ℕ) → AreChanges (generated_changes n x)
+changes_fit zero x = tt
+changes_fit (suc n) x = (record { source = omega arith; key = omega arith; payload = put_fits (drawn (next_state (next_state x))) (drawn (after_change x)) }, changes_fit n (after_change x))
+
+-- it follows the last one
+pub generated_follows : (x last : ℕ) → last ≤ 9223372036854775804 → Follows last (generated_window x last)
+unfolding generated_window
+generated_follows x last low =
+    let n = count_of x in
+    let y = next_state (next_state x) in
+    let many = changes_many n y in
+    record {
+      chained = refl;
+      full = omega (arith, many);
+      within = record { scn = omega (arith, low); prev = omega arith; count = omega (arith, many); size = omega (arith, changes_small n y); changes = changes_fit n y };
+    }

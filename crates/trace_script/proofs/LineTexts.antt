@@ -16,9 +16,9 @@ use Rattle.partition_filter.specs.Selection.{Selection}
 use Rattle.trace_script.specs.declared.fault.LineFault.{LineFault}
 use Rattle.trace_script.specs.declared.fault.LineFault.TheVariants.{BadLine, NoMemory}
 use Rattle.trace_script.specs.declared.line.Line.{Line}
-use Rattle.trace_script.specs.declared.line.Line.TheVariants.{Blank, Relay, Consumer, Commit, Feed, Poll, Show, Crash, Stop, Stream, Log, Apply, Trim, RestartBoot}
+use Rattle.trace_script.specs.declared.line.Line.TheVariants.{Blank, Relay, Consumer, Commit, Gen, Feed, Poll, Show, Sum, Crash, Stop, Stream, Log, Apply, Trim, RestartBoot}
 use Rattle.trace_script.specs.Words.{words_of, is_line_byte, may_be_words, number_in, changes_of}
-use Rattle.trace_script.specs.Lines.{is_blank, relay_of, consumer_of, commit_of, feed_of, poll_of, show_of, crash_of, stop_of, stream_of, log_of, apply_of, trim_of, restart_of, words_line, line_of}
+use Rattle.trace_script.specs.Lines.{is_blank, relay_of, consumer_of, commit_of, gen_of, feed_of, poll_of, show_of, sum_of, crash_of, stop_of, stream_of, log_of, apply_of, trim_of, restart_of, words_line, line_of}
 use Rattle.trace_script.specs.Spelling.{IsCount, IsMost, IsLine, Spells, change_text, line_words}
 use Rattle.trace_script.specs.Reading.{Reads}
 use Rattle.trace_script.proofs.ChangeTexts.{u64_form, changes_taken, changes_again, words-changes}
@@ -32,6 +32,12 @@ bytes_form = number_in_form 1048576 268435456 (lit< tt)
 
 windows_form : Form (λ n. (1 ≤ n) × (n ≤ 65536)) decimal (number_in 1 65536) is_digit
 windows_form = number_in_form 1 65536 (lit< tt)
+
+seed_form : Form (λ n. n ≤ 2147483647) decimal (number_of 2147483647) is_digit
+seed_form = number_form 2147483647 (lit< tt)
+
+generated_form : Form (λ n. (1 ≤ n) × (n ≤ 100000)) decimal (number_in 1 100000) is_digit
+generated_form = number_in_form 1 100000 (lit< tt)
 
 count_form : Form IsCount decimal (number_in 1 1000000) is_digit
 count_form = number_in_form 1 1000000 (lit< tt)
@@ -75,6 +81,13 @@ commit_taken (scn ∷ change ∷ words) line h =
     rw (← whole) ((omega (arith, spelled.0), long, all.1, all.2), cc (spelled.1, all.0))
 commit_taken words line h = cc h
 
+gen_taken : (words : List (List ℕ)) (line : Line) → gen_of words ≡ Some line → HasWords (codes "gen" ∷ words) line
+unfolding gen_of
+gen_taken (seed ∷ count ∷ []) line h =
+    let p = both seed_form (λ n is. generated_form) Gen seed count line h in
+    rw (← p.made) ((p.first_is, p.second_is.0, p.second_is.1), cc (p.first_text, p.second_text))
+gen_taken words line h = cc h
+
 feed_taken : (words : List (List ℕ)) (line : Line) → feed_of words ≡ Some line → HasWords (codes "feed" ∷ words) line
 unfolding feed_of
 feed_taken (count ∷ []) line h =
@@ -95,6 +108,13 @@ show_taken (name ∷ []) line h =
     let p = made name_form Show name line h in
     rw (← p.made) (p.is, cc (p.spelled))
 show_taken words line h = cc h
+
+sum_taken : (words : List (List ℕ)) (line : Line) → sum_of words ≡ Some line → HasWords (codes "sum" ∷ words) line
+unfolding sum_of
+sum_taken (name ∷ []) line h =
+    let p = made name_form Sum name line h in
+    rw (← p.made) (p.is, cc (p.spelled))
+sum_taken words line h = cc h
 
 crash_taken : (words : List (List ℕ)) (line : Line) → crash_of words ≡ Some line → HasWords (codes "crash" ∷ words) line
 unfolding crash_of
@@ -162,15 +182,17 @@ words_taken (word ∷ words) line h =
     (λ h. by_word word (codes "consumer") words line (consumer_of words) _ h (consumer_taken words line)
     (λ h. by_word word (codes "stream") words line (stream_of words) _ h (stream_taken words line)
     (λ h. by_word word (codes "feed") words line (feed_of words) _ h (feed_taken words line)
+    (λ h. by_word word (codes "gen") words line (gen_of words) _ h (gen_taken words line)
     (λ h. by_word word (codes "poll") words line (poll_of words) _ h (poll_taken words line)
     (λ h. by_word word (codes "show") words line (show_of words) _ h (show_taken words line)
+    (λ h. by_word word (codes "sum") words line (sum_of words) _ h (sum_taken words line)
     (λ h. by_word word (codes "crash") words line (crash_of words) _ h (crash_taken words line)
     (λ h. by_word word (codes "stop") words line (stop_of words) _ h (stop_taken words line)
     (λ h. by_word word (codes "log") words line (log_of words) _ h (log_taken words line)
     (λ h. by_word word (codes "apply") words line (apply_of words) _ h (apply_taken words line)
     (λ h. by_word word (codes "trim") words line (trim_of words) _ h (trim_taken words line)
     (λ h. by_word word (codes "restart") words line (restart_of words) _ h (restart_taken words line)
-    (λ h. by_word word (codes "relay") words line (relay_of words) None h (relay_taken words line) (λ h. cc h)))))))))))))
+    (λ h. by_word word (codes "relay") words line (relay_of words) None h (relay_taken words line) (λ h. cc h)))))))))))))))
 
 joined : (text : List ℕ) (words : List (List ℕ)) → words_of text ≡ words → text ≡ join_with_byte 32 words
 joined text words same = sym (join_with_byte-slice_split 32 text) ∙ ap (join_with_byte 32) same
@@ -199,9 +221,11 @@ words_are Blank h = tt
 words_are (Relay bytes windows) h = ((lit< tt, refl), (IsWord-decimal bytes (omega arith), (IsWord-decimal windows (omega arith), tt)))
 words_are (Consumer name filter) h = ((lit< tt, refl), (IsWord-name name h.0, (IsWord-filter filter h.1, tt)))
 words_are (Commit scn changes) h = ((lit< tt, refl), (IsWord-decimal scn h.0, words-changes changes h.2 h.3))
+words_are (Gen seed count) h = ((lit< tt, refl), (IsWord-decimal seed (omega arith), (IsWord-decimal count (omega arith), tt)))
 words_are (Feed count) h = ((lit< tt, refl), (IsWord-decimal count (omega arith), tt))
 words_are (Poll name max) h = ((lit< tt, refl), (IsWord-name name h.0, (IsWord-decimal max (omega arith), tt)))
 words_are (Show name) h = ((lit< tt, refl), (IsWord-name name h, tt))
+words_are (Sum name) h = ((lit< tt, refl), (IsWord-name name h, tt))
 words_are (Crash name) h = ((lit< tt, refl), (IsWord-name name h, tt))
 words_are (Stop name after) h = ((lit< tt, refl), (IsWord-name name h, (IsWord-when after, tt)))
 words_are (Stream scn filter max) h = ((lit< tt, refl), (IsWord-decimal scn (omega arith), (IsWord-filter filter h.1, (IsWord-decimal max (omega arith), tt))))
@@ -268,15 +292,17 @@ from_words word words line all full read = rw (no_return (word ∷ words) all, f
 
 -- the words of a line are read
 words_back : (line : Line) → HasWords (line_words line) line → words_line (line_words line) ≡ Some line
-unfolding words_line relay_of consumer_of commit_of feed_of poll_of show_of crash_of stop_of stream_of log_of apply_of trim_of restart_of
+unfolding words_line relay_of consumer_of commit_of gen_of feed_of poll_of show_of sum_of crash_of stop_of stream_of log_of apply_of trim_of restart_of
 words_back Blank h = absurd h
 words_back (Relay bytes windows) h = rw (bytes_form.again bytes (h.0.0, h.0.1), windows_form.again windows (h.0.2, h.0.3)) refl
 words_back (Consumer name filter) h = rw (name_form.again name h.0.0, filter_form.again filter h.0.1) refl
 words_back (Commit scn []) h = absurd (omega (arith, h.0.1))
 words_back (Commit scn (c ∷ cs)) h = rw (u64_form.again scn (omega (arith, h.0.0)), changes_again (c ∷ cs) h.0.2 h.0.3) refl
+words_back (Gen seed count) h = rw (seed_form.again seed h.0.0, generated_form.again count (h.0.1, h.0.2)) refl
 words_back (Feed count) h = rw (count_form.again count h.0) refl
 words_back (Poll name max) h = rw (name_form.again name h.0.0, most_form.again max h.0.1) refl
 words_back (Show name) h = rw (name_form.again name h.0) refl
+words_back (Sum name) h = rw (name_form.again name h.0) refl
 words_back (Crash name) h = rw (name_form.again name h.0) refl
 words_back (Stop name after) h = rw (name_form.again name h.0, when_form.again after tt) refl
 words_back (Stream scn filter max) h = rw (scn_form.again scn h.0.0, most_form.again max h.0.2, filter_form.again filter h.0.1) refl

@@ -4,7 +4,7 @@ use Rattle.std.specs.List.{list_any}
 use Rattle.bus_types.specs.Text.{cut_at, number_of, max_u64}
 use Rattle.text_forms.proofs.ListForms.{split_cut, split_uncut}
 use Rattle.trace_script.specs.Words.{IsNoCommit, words_of, changes_of}
-use Rattle.trace_script.specs.Lines.{is_blank, commit_by, relay_of, consumer_of, commit_of, feed_of, poll_of, show_of, crash_of, stop_of, stream_of, log_of, apply_of, trim_of, restart_of, words_line, line_of}
+use Rattle.trace_script.specs.Lines.{is_blank, commit_by, relay_of, consumer_of, commit_of, gen_of, feed_of, poll_of, show_of, sum_of, crash_of, stop_of, stream_of, log_of, apply_of, trim_of, restart_of, words_line, line_of}
 use Rattle.trace_script.specs.declared.line.Line.{Line}
 use Rattle.trace_script.proofs.LineTexts.{line_of_some}
 
@@ -46,13 +46,13 @@ neither true line h = refl
 neither false line h = h
 
 pub no_word : (words : List (List ℕ)) → length words < 2 → words_line words ≡ None
-unfolding words_line commit_of consumer_of stream_of feed_of poll_of show_of crash_of stop_of log_of apply_of trim_of restart_of relay_of
+unfolding words_line commit_of consumer_of stream_of gen_of feed_of poll_of show_of sum_of crash_of stop_of log_of apply_of trim_of restart_of relay_of
 no_word [] short = refl
 no_word (word ∷ []) short =
     neither (bytes_eq word (codes "commit")) _ (neither (bytes_eq word (codes "consumer")) _ (neither (bytes_eq word (codes "stream")) _ (neither (bytes_eq word (codes "feed")) _
-    (neither (bytes_eq word (codes "poll")) _ (neither (bytes_eq word (codes "show")) _ (neither (bytes_eq word (codes "crash")) _ (neither (bytes_eq word (codes "stop")) _
+    (neither (bytes_eq word (codes "gen")) _ (neither (bytes_eq word (codes "poll")) _ (neither (bytes_eq word (codes "show")) _ (neither (bytes_eq word (codes "sum")) _ (neither (bytes_eq word (codes "crash")) _ (neither (bytes_eq word (codes "stop")) _
     (neither (bytes_eq word (codes "log")) _ (neither (bytes_eq word (codes "apply")) _ (neither (bytes_eq word (codes "trim")) _ (neither (bytes_eq word (codes "restart")) _
-    (neither (bytes_eq word (codes "relay")) None refl))))))))))))
+    (neither (bytes_eq word (codes "relay")) None refl))))))))))))))
 no_word (word ∷ next ∷ words) short = absurd (omega (arith, short))
 
 -- several words that are no commit

@@ -9,9 +9,9 @@ use Rattle.bus_types.specs.declared.change.Change.{Change}
 use Rattle.bus_types.specs.declared.limits.TheConstants.{MAX_SCN}
 use Rattle.trace_script.specs.declared.fault.LineFault.{LineFault}
 use Rattle.trace_script.specs.declared.line.Line.{Line}
-use Rattle.trace_script.specs.declared.line.Line.TheVariants.{Blank, Relay, Commit, Feed, Poll, Stream, Log, Apply, Trim}
+use Rattle.trace_script.specs.declared.line.Line.TheVariants.{Blank, Relay, Commit, Gen, Feed, Poll, Stream, Log, Apply, Trim}
 use Rattle.trace_script.specs.Lines.{line_of}
-use Rattle.trace_script.specs.Spelling.{IsLine, IsInRange, IsRoom, IsCount, IsMost, Spells, change_text, line_text, is_room, is_count, is_most, is_in_range}
+use Rattle.trace_script.specs.Spelling.{IsLine, IsInRange, IsRoom, IsCount, IsMost, IsGenerated, Spells, change_text, line_text, is_room, is_count, is_most, is_generated, is_in_range}
 use Rattle.trace_script.specs.Reading.{Reads}
 use Rattle.bus_types.specs.Text.{Appends}
 use Rattle.trace_script.proofs.LineTexts.{line_again, line_taken}
@@ -55,6 +55,7 @@ read_back line h = line_again (line_text line) line (spelled line h)
 in_range : (text : List ℕ) (line : Line) → Spells text line → IsInRange line
 in_range text (Relay bytes windows) h = h.0
 in_range text (Commit scn changes) h = h.0.1
+in_range text (Gen seed count) h = h.0
 in_range text (Feed count) h = h.0
 in_range text (Poll name max) h = h.0.1
 in_range text (Stream scn filter max) h = (h.0.0, h.0.2)
@@ -77,9 +78,13 @@ room_tested bytes windows h = grind (arith, nat_tests)
 stream_tested : (scn max : ℕ) → (nat_le scn MAX_SCN && is_most max) ≡ true → (scn ≤ MAX_SCN) × IsMost max
 stream_tested scn max h = let p = and_parts (nat_le scn MAX_SCN) (is_most max) h in (leb-true scn MAX_SCN p.0, most_tested max p.1)
 
+generated_tested : (seed count : ℕ) → is_generated seed count ≡ true → IsGenerated seed count
+generated_tested seed count h = grind (arith, nat_tests)
+
 pub range_tested : (line : Line) → is_in_range line ≡ true → IsInRange line
 range_tested (Relay bytes windows) h = room_tested bytes windows h
 range_tested (Commit scn changes) h = ltb-true 0 (length changes) h
+range_tested (Gen seed count) h = generated_tested seed count h
 range_tested (Feed count) h = count_tested count h
 range_tested (Poll name max) h = most_tested max h
 range_tested (Stream scn filter max) h = stream_tested scn max h
@@ -97,9 +102,13 @@ most_test max h = rw (le-leb 1 max h.0, le-leb max 16777216 h.1) refl
 room_test : (bytes windows : ℕ) → IsRoom bytes windows → is_room bytes windows ≡ true
 room_test bytes windows h = rw (le-leb 1048576 bytes h.0, le-leb bytes 268435456 h.1, le-leb 1 windows h.2, le-leb windows 65536 h.3) refl
 
+generated_test : (seed count : ℕ) → IsGenerated seed count → is_generated seed count ≡ true
+generated_test seed count h = rw (le-leb seed 2147483647 h.0, le-leb 1 count h.1, le-leb count 100000 h.2) refl
+
 range_test : (line : Line) → IsInRange line → is_in_range line ≡ true
 range_test (Relay bytes windows) h = room_test bytes windows h
 range_test (Commit scn changes) h = lt-ltb 0 (length changes) h
+range_test (Gen seed count) h = generated_test seed count h
 range_test (Feed count) h = count_test count h
 range_test (Poll name max) h = most_test max h
 range_test (Stream scn filter max) h = rw (le-leb scn MAX_SCN h.0) (most_test max h.1)

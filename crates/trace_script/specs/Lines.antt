@@ -2,7 +2,7 @@
 use Rattle.std.specs.Prelude.{ℕ, Bool, true, false, if◌then◌else◌, ◌==◌, List, [], ◌∷◌, codes, bytes_eq, Option, Some, None}
 use Rattle.std.specs.List.{list_any}
 use Rattle.trace_script.specs.declared.line.Line.{Line}
-use Rattle.trace_script.specs.declared.line.Line.TheVariants.{Blank, Relay, Consumer, Commit, Feed, Poll, Show, Crash, Stop, Stream, Log, Apply, Trim, RestartBoot}
+use Rattle.trace_script.specs.declared.line.Line.TheVariants.{Blank, Relay, Consumer, Commit, Gen, Feed, Poll, Show, Sum, Crash, Stop, Stream, Log, Apply, Trim, RestartBoot}
 use Rattle.bus_types.specs.declared.change.Change.{Change}
 use Rattle.bus_types.specs.declared.limits.TheConstants.{MAX_SCN}
 use Rattle.bus_types.specs.Text.{◌>>=◌, number_of, max_u64}
@@ -41,6 +41,16 @@ commit_of (scn ∷ change ∷ words) = commit_by (number_of max_u64 scn) (change
 commit_of [] = None
 commit_of (scn ∷ []) = None
 
+-- `gen SEED COUNT`
+unfoldable pub gen_of : List (List ℕ) → Option Line
+gen_of (seed ∷ count ∷ []) = do
+  number ← number_of 2147483647 seed
+  windows ← number_in 1 100000 count
+  Some (Gen number windows)
+gen_of [] = None
+gen_of (seed ∷ []) = None
+gen_of (seed ∷ count ∷ more ∷ words) = None
+
 -- `feed N`
 unfoldable pub feed_of : List (List ℕ) → Option Line
 feed_of (count ∷ []) = do
@@ -66,6 +76,14 @@ show_of (name ∷ []) = do
   Some (Show known)
 show_of [] = None
 show_of (name ∷ more ∷ words) = None
+
+-- `sum NAME`
+unfoldable pub sum_of : List (List ℕ) → Option Line
+sum_of (name ∷ []) = do
+  known ← name_of name
+  Some (Sum known)
+sum_of [] = None
+sum_of (name ∷ more ∷ words) = None
 
 -- `crash NAME`
 unfoldable pub crash_of : List (List ℕ) → Option Line
@@ -139,8 +157,10 @@ words_line (word ∷ words) =
     else if bytes_eq word (codes "consumer") then consumer_of words
     else if bytes_eq word (codes "stream") then stream_of words
     else if bytes_eq word (codes "feed") then feed_of words
+    else if bytes_eq word (codes "gen") then gen_of words
     else if bytes_eq word (codes "poll") then poll_of words
     else if bytes_eq word (codes "show") then show_of words
+    else if bytes_eq word (codes "sum") then sum_of words
     else if bytes_eq word (codes "crash") then crash_of words
     else if bytes_eq word (codes "stop") then stop_of words
     else if bytes_eq word (codes "log") then log_of words

@@ -7,7 +7,7 @@ use Rattle.bus_types.specs.Change.{AreChanges, key_text}
 use Rattle.bus_types.specs.declared.limits.TheConstants.{MAX_SCN}
 use Rattle.partition_filter.specs.Spelling.{IsFilter, filter_text}
 use Rattle.trace_script.specs.declared.line.Line.{Line}
-use Rattle.trace_script.specs.declared.line.Line.TheVariants.{Blank, Relay, Consumer, Commit, Feed, Poll, Show, Crash, Stop, Stream, Log, Apply, Trim, RestartBoot}
+use Rattle.trace_script.specs.declared.line.Line.TheVariants.{Blank, Relay, Consumer, Commit, Gen, Feed, Poll, Show, Sum, Crash, Stop, Stream, Log, Apply, Trim, RestartBoot}
 use Rattle.trace_script.specs.Words.{is_name_text}
 use Rattle.trace_script.specs.Lines.{is_blank}
 
@@ -30,9 +30,11 @@ line_words Blank = []
 line_words (Relay bytes windows) = codes "relay" ∷ decimal bytes ∷ decimal windows ∷ []
 line_words (Consumer name filter) = codes "consumer" ∷ name ∷ filter_text filter ∷ []
 line_words (Commit scn changes) = codes "commit" ∷ decimal scn ∷ map change_text changes
+line_words (Gen seed count) = codes "gen" ∷ decimal seed ∷ decimal count ∷ []
 line_words (Feed count) = codes "feed" ∷ decimal count ∷ []
 line_words (Poll name max) = codes "poll" ∷ name ∷ decimal max ∷ []
 line_words (Show name) = codes "show" ∷ name ∷ []
+line_words (Sum name) = codes "sum" ∷ name ∷ []
 line_words (Crash name) = codes "crash" ∷ name ∷ []
 line_words (Stop name after) = codes "stop" ∷ name ∷ when_text after ∷ []
 line_words (Stream scn filter max) = codes "stream" ∷ decimal scn ∷ filter_text filter ∷ decimal max ∷ []
@@ -57,6 +59,10 @@ AreBytesOf (Some payload) = AllByRecursion (λ b. b < 256) payload
 abbrev pub IsRoom : ℕ → ℕ → Type 0
 IsRoom bytes windows = (1048576 ≤ bytes) × (bytes ≤ 268435456) × (1 ≤ windows) × (windows ≤ 65536)
 
+-- what windows are made from, and how many
+abbrev pub IsGenerated : ℕ → ℕ → Type 0
+IsGenerated seed count = (seed ≤ 2147483647) × (1 ≤ count) × (count ≤ 100000)
+
 abbrev pub IsCount : ℕ → Type 0
 IsCount count = (1 ≤ count) × (count ≤ 1000000)
 
@@ -70,9 +76,11 @@ IsLine Blank = Unit {0}
 IsLine (Relay bytes windows) = IsRoom bytes windows
 IsLine (Consumer name filter) = IsName name × IsFilter filter
 IsLine (Commit scn changes) = (scn < 2 ^ 64) × (0 < length changes) × AreChanges changes × AllByRecursion (λ c. AreBytesOf c.put) changes
+IsLine (Gen seed count) = IsGenerated seed count
 IsLine (Feed count) = IsCount count
 IsLine (Poll name max) = IsName name × IsMost max
 IsLine (Show name) = IsName name
+IsLine (Sum name) = IsName name
 IsLine (Crash name) = IsName name
 IsLine (Stop name after) = IsName name
 IsLine (Stream scn filter max) = (scn ≤ MAX_SCN) × IsFilter filter × IsMost max
@@ -87,9 +95,11 @@ IsInRange Blank = Unit {0}
 IsInRange (Relay bytes windows) = IsRoom bytes windows
 IsInRange (Consumer name filter) = Unit {0}
 IsInRange (Commit scn changes) = 0 < length changes
+IsInRange (Gen seed count) = IsGenerated seed count
 IsInRange (Feed count) = IsCount count
 IsInRange (Poll name max) = IsMost max
 IsInRange (Show name) = Unit {0}
+IsInRange (Sum name) = Unit {0}
 IsInRange (Crash name) = Unit {0}
 IsInRange (Stop name after) = Unit {0}
 IsInRange (Stream scn filter max) = (scn ≤ MAX_SCN) × IsMost max
@@ -103,6 +113,9 @@ IsInRange RestartBoot = Unit {0}
 abbrev pub is_room : ℕ → ℕ → Bool
 is_room bytes windows = nat_le 1048576 bytes && nat_le bytes 268435456 && nat_le 1 windows && nat_le windows 65536
 
+abbrev pub is_generated : ℕ → ℕ → Bool
+is_generated seed count = nat_le seed 2147483647 && nat_le 1 count && nat_le count 100000
+
 abbrev pub is_count : ℕ → Bool
 is_count count = nat_le 1 count && nat_le count 1000000
 
@@ -114,9 +127,11 @@ is_in_range Blank = true
 is_in_range (Relay bytes windows) = is_room bytes windows
 is_in_range (Consumer name filter) = true
 is_in_range (Commit scn changes) = nat_lt 0 (length changes)
+is_in_range (Gen seed count) = is_generated seed count
 is_in_range (Feed count) = is_count count
 is_in_range (Poll name max) = is_most max
 is_in_range (Show name) = true
+is_in_range (Sum name) = true
 is_in_range (Crash name) = true
 is_in_range (Stop name after) = true
 is_in_range (Stream scn filter max) = nat_le scn MAX_SCN && is_most max

@@ -96,7 +96,8 @@ fn changes(alloc: Global, state: &mut u32, count: u32) -> Result<Vec<Change>, No
 /// A law of the generator: the first draws from the seed 0, and its first window.
 pub fn worked_windows()
     ensures draws { draws 7 0 ≡ 0 ∷ 21468 ∷ 9988 ∷ 22117 ∷ 3498 ∷ 16927 ∷ 16045 ∷ [] }
-    ensures window { generated_window 0 0 ≡ record { scn = 1; prev = 0; changes = record { source = 1; key = Long 1637; put = Some (bytes_from 15 43) } ∷ [] } }
+    ensures window { generated_window 0 0
+        ≡ record { scn = 1; prev = 0; changes = record { source = 1; key = Long 1637; put = Some (bytes_from 15 43) } ∷ [] } }
     ensures bytes { bytes_from 254 4 ≡ 254 ∷ 255 ∷ 0 ∷ 1 ∷ [] }
 {}
 

@@ -2,7 +2,7 @@ ghost use Rattle.std.specs.Prelude.{◌≡◌, ◌+◌, ◌<◌, ◌≤◌, ◌�
 ghost use Rattle.bus_types.specs.declared.change.Key.TheVariants.{Long};
 ghost use Rattle.partition_filter.specs.Selection.Selection.{All, Rules};
 ghost use Rattle.partition_filter.specs.declared.rule.Keys.TheVariants.{Every};
-ghost use Rattle.trace_script.specs.declared.line.Line.TheVariants.{Blank, Relay, Consumer, Commit, Feed, Poll, Show, Crash, Stop, Stream, Log, Apply, Trim, RestartBoot};
+ghost use Rattle.trace_script.specs.declared.line.Line.TheVariants.{Blank, Relay, Consumer, Commit, Gen, Feed, Poll, Show, Sum, Crash, Stop, Stream, Log, Apply, Trim, RestartBoot};
 ghost use Rattle.event_codec.specs.declared.answer.Answer.TheVariants as answers;
 ghost use Rattle.event_codec.specs.declared.reply.Shape.TheVariants as shapes;
 ghost use Rattle.trace_script.specs.declared.printing.Stage.TheVariants as stages;
@@ -17,6 +17,11 @@ pub fn the_limits_of_lines()
     ensures least_feed { line_of (codes "feed 1") ≡ Some (Feed 1) }
     ensures most_feed { line_of (codes "feed 1000000") ≡ Some (Feed 1000000) }
     ensures more_feed { line_of (codes "feed 1000001") ≡ None }
+    ensures least_gen { line_of (codes "gen 0 1") ≡ Some (Gen 0 1) }
+    ensures most_gen { line_of (codes "gen 2147483647 100000") ≡ Some (Gen 2147483647 100000) }
+    ensures no_gen { line_of (codes "gen 0 0") ≡ None }
+    ensures greater_seed { line_of (codes "gen 2147483648 1") ≡ None }
+    ensures more_gen { line_of (codes "gen 0 100001") ≡ None }
     ensures no_log { line_of (codes "log 0") ≡ None }
     ensures least_log { line_of (codes "log 1") ≡ Some (Log 1) }
     ensures most_log { line_of (codes "log 1000000") ≡ Some (Log 1000000) }
@@ -59,6 +64,7 @@ pub fn worked_lines()
     ensures consumer { line_of (codes "consumer c_1 0*") ≡ Some (Consumer (codes "c_1") (Rules ((record { source = 0; keys = Every }) ∷ []))) }
     ensures commit { line_of (codes "commit 9 1/2=0aff 0/3- 4/5=") ≡ Some (Commit 9 ((record { source = 1; key = Long 2; put = (Some (10 ∷ 255 ∷ [])) }) ∷ (record { source = 0; key = Long 3; put = None }) ∷ (record { source = 4; key = Long 5; put = (Some []) }) ∷ [])) }
     ensures show { line_of (codes "show c") ≡ Some (Show (codes "c")) }
+    ensures sum { line_of (codes "sum c") ≡ Some (Sum (codes "c")) }
     ensures crash { line_of (codes "crash c") ≡ Some (Crash (codes "c")) }
     ensures stop_before { line_of (codes "stop c before") ≡ Some (Stop (codes "c") false) }
     ensures stop_after { line_of (codes "stop c after") ≡ Some (Stop (codes "c") true) }

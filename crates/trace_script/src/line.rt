@@ -1,5 +1,5 @@
 ghost use Rattle.std.specs.Prelude.{◌≡◌};
-ghost use Rattle.trace_script.specs.Spelling.{is_room, is_count, is_most, is_in_range};
+ghost use Rattle.trace_script.specs.Spelling.{is_room, is_count, is_most, is_generated, is_in_range};
 
 use crate::name::Name;
 use bus_types::{Changes, MAX_SCN};
@@ -16,6 +16,12 @@ pub(crate) const MAX_WINDOWS: u64 = 65_536;
 
 /// The most commits that one line feeds, and the most windows that one logs or applies.
 pub(crate) const MAX_COUNT: u64 = 1_000_000;
+
+/// The greatest number that windows are made from.
+pub(crate) const MAX_SEED: u64 = 2_147_483_647;
+
+/// The most windows that one line makes.
+pub(crate) const MAX_GENERATED: u64 = 100_000;
 
 /// The most bytes that a line may ask a reply to have.
 pub(crate) const MAX_REPLY: u64 = 16_777_216;
@@ -46,6 +52,13 @@ pub enum Line {
         /// Its changes, in order.
         changes: Changes,
     },
+    /// `gen SEED COUNT`: the source commits windows that are made from a number, as `gen_window` makes them.
+    Gen {
+        /// The number, 0 to 2,147,483,647.
+        seed: u32,
+        /// How many windows, 1 to 100,000.
+        count: u32,
+    },
     /// `feed N`: the relay publishes the next N commits, 1 to 1,000,000, or those there are.
     Feed(u64),
     /// `poll NAME MAX`: a consumer asks the relay for the next windows and follows them.
@@ -57,6 +70,8 @@ pub enum Line {
     },
     /// `show NAME`: prints a consumer's SCN and rows.
     Show(Name),
+    /// `sum NAME`: prints a consumer's SCN and a summary of its rows.
+    Sum(Name),
     /// `crash NAME`: the client of a consumer is opened again from its keeper.
     Crash(Name),
     /// `stop NAME before` or `stop NAME after`: the next commit of a consumer fails. A second such line takes the place
@@ -97,6 +112,7 @@ impl Line {
         match self {
             Line::Relay { bytes, windows } => is_room(*bytes, *windows),
             Line::Commit { changes, .. } => !changes.items().is_empty(),
+            Line::Gen { seed, count } => is_generated(*seed, *count),
             Line::Feed(count) | Line::Log(count) | Line::Apply(count) => is_count(*count),
             Line::Poll { max, .. } => is_most(*max),
             Line::Stream { scn, max, .. } => *scn <= MAX_SCN && is_most(*max),
@@ -122,4 +138,10 @@ fn is_most(max: u32) -> bool
     ensures { result ≡ is_most max }
 {
     1 <= max && u64::from(max) <= MAX_REPLY
+}
+
+fn is_generated(seed: u32, count: u32) -> bool
+    ensures { result ≡ is_generated seed count }
+{
+    u64::from(seed) <= MAX_SEED && 1 <= count && u64::from(count) <= MAX_GENERATED
 }

@@ -5,11 +5,13 @@ ghost use Rattle.trace_script.specs.Reading.{Reads};
 ghost use Rattle.trace_script.specs.declared.line.Line.{Line};
 ghost use Rattle.trace_script.specs.Spelling.{is_in_range, Spells};
 ghost use Rattle.trace_script.specs.Words.{IsNoCommit, is_line_byte, may_be_words, words_of, changes_of, number_in, name_of, selection_of};
-ghost use Rattle.trace_script.specs.Lines.{is_blank, relay_of, consumer_of, commit_by, commit_of, feed_of, poll_of, show_of, crash_of, when_of, stop_of, stream_of, log_of, apply_of, trim_of, restart_of, words_line, line_of};
+ghost use Rattle.trace_script.specs.Lines.{is_blank, relay_of, consumer_of, commit_by, commit_of, gen_of, feed_of, poll_of, show_of, sum_of, crash_of, when_of, stop_of, stream_of, log_of, apply_of, trim_of, restart_of, words_line, line_of};
 
 use crate::change::changes;
 use crate::fault::LineFault;
-use crate::line::{Line, MAX_COUNT, MAX_REPLY, MAX_ROOM, MAX_WINDOWS, MIN_ROOM};
+use crate::line::{
+    Line, MAX_COUNT, MAX_GENERATED, MAX_REPLY, MAX_ROOM, MAX_SEED, MAX_WINDOWS, MIN_ROOM,
+};
 use crate::name::Name;
 use bus_types::{Changes, MAX_SCN, cut_text, read_number};
 use memchr::memchr;
@@ -207,10 +209,14 @@ fn plain_line(word: &[u8], words: &[&[u8]]) -> Option<Line>
 {
     if word == b"feed".as_slice() {
         feed(words)
+    } else if word == b"gen".as_slice() {
+        generated(words)
     } else if word == b"poll".as_slice() {
         poll(words)
     } else if word == b"show".as_slice() {
         show(words)
+    } else if word == b"sum".as_slice() {
+        sum(words)
     } else if word == b"crash".as_slice() {
         crash(words)
     } else if word == b"stop".as_slice() {
@@ -279,6 +285,22 @@ fn consumer(alloc: Global, words: &[&[u8]]) -> Result<Line, LineFault>
     Ok(Line::Consumer { name, filter })
 }
 
+/// `gen SEED COUNT`
+#[tactic(auto, unfolding(crate::specs::Lines::gen_of))]
+fn generated(words: &[&[u8]]) -> Option<Line>
+    ensures { result ≡ gen_of (map (λ word. word.now) words.now) }
+{
+    let [seed, count] = words else {
+        return None;
+    };
+    let seed = read_number(seed, MAX_SEED)?;
+    let count = number_in(count, 1, MAX_GENERATED)?;
+    Some(Line::Gen {
+        seed: seed as u32,
+        count: count as u32,
+    })
+}
+
 /// `feed N`
 #[tactic(auto, unfolding(crate::specs::Lines::feed_of))]
 fn feed(words: &[&[u8]]) -> Option<Line>
@@ -312,6 +334,17 @@ fn show(words: &[&[u8]]) -> Option<Line>
         return None;
     };
     Some(Line::Show(known_name(name)?))
+}
+
+/// `sum NAME`
+#[tactic(auto, unfolding(crate::specs::Lines::sum_of))]
+fn sum(words: &[&[u8]]) -> Option<Line>
+    ensures { result ≡ sum_of (map (λ word. word.now) words.now) }
+{
+    let [name] = words else {
+        return None;
+    };
+    Some(Line::Sum(known_name(name)?))
 }
 
 /// `crash NAME`

@@ -73,9 +73,11 @@ fn room_for(line: &Line) -> usize
             let _scn = *scn;
             room_for_changes(changes.items()).saturating_add(27)
         }
+        Line::Gen { .. } => 21,
         Line::Feed(_) => 12,
         Line::Poll { name, .. } => 14 + name.bytes().len(),
         Line::Show(name) => 5 + name.bytes().len(),
+        Line::Sum(name) => 4 + name.bytes().len(),
         Line::Crash(name) => 6 + name.bytes().len(),
         Line::Stop { name, .. } => 12 + name.bytes().len(),
         Line::Stream { .. } => 36,
@@ -126,9 +128,11 @@ fn append_line(line: &Line, filter: &[u8], out: &mut Vec<u8>) -> Result<(), NoMe
         Line::Relay { bytes, windows } => append_relay(*bytes, *windows, out),
         Line::Consumer { name, .. } => append_consumer(name, filter, out),
         Line::Commit { scn, changes } => append_commit(*scn, changes.items(), out),
+        Line::Gen { seed, count } => append_gen(*seed, *count, out),
         Line::Feed(count) => append_feed(*count, out),
         Line::Poll { name, max } => append_poll(name, *max, out),
         Line::Show(name) => append_show(name, out),
+        Line::Sum(name) => append_sum(name, out),
         Line::Crash(name) => append_crash(name, out),
         Line::Stop { name, after } => append_stop(name, *after, out),
         Line::Stream { scn, max, .. } => append_stream(*scn, filter, *max, out),
@@ -160,6 +164,23 @@ fn append_consumer(name: &Name, filter: &[u8], out: &mut Vec<u8>) -> Result<(), 
     Ok(())
 }
 
+/// `gen SEED COUNT`
+fn append_gen(seed: u32, count: u32, out: &mut Vec<u8>) -> Result<(), NoMemory>
+    ensures { Appends result (codes "gen " ++ decimal seed ++ codes " " ++ decimal count) out.old.items out.new.items }
+{
+    out.extend_from_slice(b"gen ")?;
+    append_numbers(seed, count, out)
+}
+
+/// Two numbers, a space between them.
+fn append_numbers(first: u32, second: u32, out: &mut Vec<u8>) -> Result<(), NoMemory>
+    ensures { Appends result (decimal first ++ codes " " ++ decimal second) out.old.items out.new.items }
+{
+    append_number(u64::from(first), out)?;
+    out.extend_from_slice(b" ")?;
+    append_number(u64::from(second), out)
+}
+
 /// `feed N`
 fn append_feed(count: u64, out: &mut Vec<u8>) -> Result<(), NoMemory>
     ensures { Appends result (codes "feed " ++ decimal count) out.old.items out.new.items }
@@ -183,6 +204,15 @@ fn append_show(name: &Name, out: &mut Vec<u8>) -> Result<(), NoMemory>
     ensures { Appends result (codes "show " ++ name.now) out.old.items out.new.items }
 {
     out.extend_from_slice(b"show ")?;
+    out.extend_from_slice(name.bytes())?;
+    Ok(())
+}
+
+/// `sum NAME`
+fn append_sum(name: &Name, out: &mut Vec<u8>) -> Result<(), NoMemory>
+    ensures { Appends result (codes "sum " ++ name.now) out.old.items out.new.items }
+{
+    out.extend_from_slice(b"sum ")?;
     out.extend_from_slice(name.bytes())?;
     Ok(())
 }
