@@ -53,6 +53,9 @@ fn send_pending<W: Sink>(circle: &Circle, pending: Pending, out: &mut W) -> Resu
 {
     let (front, back) = circle.part(pending.from, pending.to - pending.from);
     let done = send_bytes(front, pending.done, out)?;
+    if back.is_empty() {
+        return Ok(done);
+    }
     send_bytes(back, done, out)
 }
 

@@ -1,11 +1,10 @@
 -- Windows that are taken item by item, and their changes.
-use Rattle.std.proofs.Common.{◌≡◌, List, [], ◌∷◌, ◌++◌, Some, None, refl, sym, ap, ◌∙◌, append_assoc, append-nil}
+use Rattle.std.proofs.Common.{◌≡◌, ℕ, ◌<◌, length, arith, List, [], ◌∷◌, ◌++◌, Some, None, refl, sym, ap, ◌∙◌, append_assoc, append-nil}
 use Rattle.std.proofs.lemmas.Option.{same_Some, none-some}
 use Rattle.bus_types.specs.declared.change.Change.{Change}
 use Rattle.bus_types.specs.Window.{Span}
 use Rattle.event_codec.specs.Bytes.{Event}
-use Rattle.event_codec.specs.Parsing.{first_scn, first_event, behind_event, others}
-use Rattle.event_codec.proofs.Taking.{no_windows}
+use Rattle.event_codec.specs.Parsing.{first_event, first_mark, mark_before, behind_event, behind_mark, others_of, without_events}
 use Rattle.client_switch.specs.Moves.{changes_of}
 use Rattle.client_switch.specs.Batch.{first_changes}
 
@@ -45,13 +44,36 @@ change_end before taken all ws first so_far = sym (append-nil taken) ∙ ap (λ 
 
 -- ---- the loop over windows
 
-changes_parts : (ws next : List Span) → next ≡ others ws → first_changes ws ++ changes_of next ≡ changes_of ws
-changes_parts [] next same = ap changes_of same
-changes_parts (w ∷ ws) next same = ap (λ (x : List Span). w.changes ++ changes_of x) same
+-- the events of the window in front were taken: none is left of it
+pub events_taken : (taken pushed total : List Change) (ws next : List Span) → pushed ≡ taken ++ first_changes ws → next ≡ without_events ws → taken ++ changes_of ws ≡ total → pushed ++ changes_of next ≡ total
+events_taken taken pushed total [] next push same so_far = ap (λ (x : List Change). x ++ changes_of next) (push ∙ append-nil taken) ∙ ap (λ (x : List Span). taken ++ changes_of x) same ∙ so_far
+events_taken taken pushed total (w ∷ ws) next push same so_far =
+    ap (λ (x : List Change). x ++ changes_of next) push ∙ ap (λ (x : List Span). (taken ++ w.changes) ++ changes_of x) same ∙ append_assoc taken w.changes (changes_of ws) ∙ so_far
 
-pub window_more : (taken pushed : List Change) (all : List Span) (ws next : List Span) → pushed ≡ taken ++ first_changes ws → next ≡ others ws → taken ++ changes_of ws ≡ changes_of all → pushed ++ changes_of next ≡ changes_of all
-window_more taken pushed all ws next push same so_far =
-    ap (λ (x : List Change). x ++ changes_of next) push ∙ append_assoc taken (first_changes ws) (changes_of next) ∙ ap (λ (x : List Change). taken ++ x) (changes_parts ws next same) ∙ so_far
+pub none_left : (ws next : List Span) → next ≡ without_events ws → first_changes next ≡ []
+none_left [] next same = ap first_changes same
+none_left (w ∷ ws) next same = ap first_changes same
 
-pub window_end : (taken : List Change) (all ws : List Span) → None ≡ first_scn ws → taken ++ changes_of ws ≡ changes_of all → taken ≡ changes_of all
-window_end taken all ws first so_far = sym (append-nil taken) ∙ ap (λ (x : List Span). taken ++ changes_of x) (sym (no_windows ws first)) ∙ so_far
+-- its mark was taken
+others_bare : (w : Span) (ws : List Span) → w.changes ≡ [] → others_of w.changes w ws ≡ ws
+others_bare w ws bare = ap (λ (cs : List Change). others_of cs w ws) bare
+
+pub mark_taken : (ws next : List Span) → first_changes ws ≡ [] → next ≡ behind_mark ws → changes_of next ≡ changes_of ws
+mark_taken [] next bare same = ap changes_of same
+mark_taken (w ∷ ws) next bare same = ap changes_of (same ∙ others_bare w ws bare) ∙ sym (ap (λ (cs : List Change). cs ++ changes_of ws) bare)
+
+same_length : (ws : List Span) → length (without_events ws) ≡ length ws
+same_length [] = refl
+same_length (w ∷ ws) = refl
+
+pub mark_less : (ws next last : List Span) (m : ℕ × ℕ) → Some m ≡ first_mark ws → first_changes ws ≡ [] → next ≡ behind_mark ws → last ≡ without_events next → length last < length ws
+mark_less [] next last m some bare same left = absurd (none-some m (sym some))
+mark_less (w ∷ ws) next last m some bare same left =
+    omega (arith, ap length left, same_length next, ap length (same ∙ others_bare w ws bare))
+
+no_mark : (ws : List Span) → None ≡ first_mark ws → first_changes ws ≡ [] → ws ≡ []
+no_mark [] none bare = refl
+no_mark (w ∷ ws) none bare = absurd (none-some (w.scn, w.prev) (none ∙ ap (λ (cs : List Change). mark_before cs (w.scn, w.prev)) bare))
+
+pub marks_end : (taken total : List Change) (ws : List Span) → None ≡ first_mark ws → first_changes ws ≡ [] → taken ++ changes_of ws ≡ total → taken ≡ total
+marks_end taken total ws none bare so_far = sym (append-nil taken) ∙ ap (λ (x : List Span). taken ++ changes_of x) (sym (no_mark ws none bare)) ∙ so_far

@@ -31,9 +31,9 @@ fn windows_changes(alloc: Global, windows: &Windows<'_>) -> Result<Vec<Change>, 
 {
     let mut changes = Vec::new(alloc);
     let mut left = windows.again();
-    while let Some(_scn) = left.scn() {
+    take_events(alloc, &mut left, &mut changes)?;
+    while let Some(_mark) = left.mark() {
         take_events(alloc, &mut left, &mut changes)?;
-        left.mark();
     }
     Ok(changes)
 }
