@@ -1,21 +1,21 @@
 -- What an append to the last segment leaves of the log.
-use Rattle.std.proofs.Common.{◌≡◌, ◌∙◌, ◌<◌, ◌≤◌, ◌+◌, ℕ, Bool, true, false, List, [], ◌∷◌, ◌++◌, length, Option, Some, None, Result, Ok, Err, IfSome, sym, ap, subst, refl, arith}
-use Rattle.std.specs.Prelude.{if◌then◌else◌, slice_get, slice_set, option_map}
+use Rattle.std.proofs.Common.{◌≡◌, ◌∙◌, ◌≤◌, ℕ, Bool, true, false, List, [], ◌∷◌, ◌++◌, Option, Some, None, Result, Ok, Err, IfSome, sym, ap, subst, refl, arith}
+use Rattle.std.specs.Prelude.{slice_get, slice_set}
 use Rattle.std.proofs.lemmas.List.{length-set}
 use Rattle.bus_types.specs.Window.{Span, span_size}
 use Rattle.bus_types.specs.Timeline.{Follows}
 use Rattle.bus_stores.specs.declared.log.LogFault.{LogFault}
 use Rattle.bus_stores.specs.declared.log.LogFault.TheVariants as faults
-use Rattle.bus_stores.specs.Log.{AppendsWindow, SameLog, growing_to, at_rest}
+use Rattle.bus_stores.specs.Log.{SameLog, growing_to}
 use Rattle.log_disk.specs.Disk.{DiskState}
-use Rattle.log_segment.specs.Segment.{Numbers, SegmentParts, told, Appends, fault_count}
+use Rattle.log_segment.specs.Segment.{Numbers, SegmentParts, told, Appends}
 use Rattle.log_store.specs.Log.{windows_of}
 use Rattle.log_store.specs.Crash.{HoldPart, Passes}
-use Rattle.log_store.specs.Order.{AllBelow, Joined, numbers_at, floor_at, last_place, lacks_room, is_full, used_at, free_place}
-use Rattle.log_store.specs.Store.{StoreParts, IsStore, AllStand, is_told, log_of, passes, windows_at, faults_of}
+use Rattle.log_store.specs.Order.{AllBelow, Joined, numbers_at, last_place, lacks_room, is_full, used_at, free_place}
+use Rattle.log_store.specs.Store.{StoreParts, IsStore, is_told, log_of, passes, windows_at, faults_of, losses_of}
 use Rattle.log_store.specs.Steps.{Grows}
 use Rattle.log_store.proofs.Orders.{joined_last}
-use Rattle.log_store.proofs.Places.{if_told, if_map, faults_set, numbers_here, numbers_else, numbers_before, set_same}
+use Rattle.log_store.proofs.Places.{if_told, if_map, faults_set, losses_set, numbers_here, numbers_else, numbers_before, set_same}
 use Rattle.log_store.proofs.Parts.{old_part, growing_part}
 use Rattle.log_store.proofs.Resting.{disks, windows, line, rest_log}
 use Rattle.log_store.proofs.Growing.{grown_joined, grow_passes, grow_windows, grow_stands, grow_joined}
@@ -48,6 +48,9 @@ module _ {D : Type 0} (state : D → DiskState) (old : StoreParts D) (is : IsSto
   later_faults : (r : Result Unit LogFault) → Appends w (told state before) (told state after) r → faults_of state old.segments ≤ faults_of state now
   later_faults r made = omega (arith, made.faults, faults_set state old.segments p before after stood)
 
+  losses_kept : after.numbers.lost ≡ before.numbers.lost → losses_of now ≡ losses_of old.segments
+  losses_kept same = omega (arith, losses_set old.segments p before after stood, same)
+
   full_is : lacks_room (span_size w) before.numbers.used ≡ false → (log_of state old).full (span_size w) ≡ false
   full_is room =
       let used : used_at old.segments (last_place old.order) ≡ Some before.numbers.used =
@@ -72,6 +75,7 @@ module _ {D : Type 0} (state : D → DiskState) (old : StoreParts D) (is : IsSto
       };
     };
     crash = crash_of (Ok x) made (record old { segments = now; high = scn }) refl;
+    losses = losses_kept (ap (λ (n : Numbers). n.lost) made.leaves.1);
   }
 
   pub append_is : (scn : ℕ) (x : Unit {0}) → scn ≡ w.scn → Appends w (told state before) (told state after) (Ok x) → IsStore state (record old { segments = now; high = scn })
@@ -90,6 +94,7 @@ module _ {D : Type 0} (state : D → DiskState) (old : StoreParts D) (is : IsSto
       leaves = tt;
     };
     crash = crash_of (Err faults.Failed) made (record old { segments = now; lost = true }) refl;
+    losses = losses_kept (ap (λ (n : Numbers). n.lost) made.leaves.1);
   }
 
   pub append_lost : Appends w (told state before) (told state after) (Err faults.Failed) → IsStore state (record old { segments = now; lost = true })
@@ -117,6 +122,7 @@ module _ {D : Type 0} (state : D → DiskState) (old : StoreParts D) (is : IsSto
         };
         crash = subst (λ (ss : List (SegmentParts D)). IfSome (log_of state old).windows (λ ws. passes state (ws ++ w ∷ []) (growing_to w.scn (log_of state old)) old (record old { segments = ss }))) (sym same)
             (unchanged_grows state old is w follows);
+        losses = losses_kept (ap (λ (n : Numbers). n.lost) made.leaves.1);
       }
 
   pub append_kept_is : after ≡ before → IsStore state (record old { segments = now })

@@ -1,24 +1,22 @@
 -- A segment is taken into use behind the last one.
-use Rattle.std.proofs.Common.{◌≡◌, ◌∙◌, ◌<◌, ◌≤◌, ◌+◌, ◌⊎◌, inl, inr, ⊎_elim, ℕ, Bool, true, false, List, [], ◌∷◌, ◌++◌, length, Option, Some, None, Result, Ok, Err, IfSome, sym, ap, subst, refl, arith, append-nil}
+use Rattle.std.proofs.Common.{◌≡◌, ◌∙◌, ◌<◌, ◌≤◌, ◌+◌, inl, ⊎_elim, ℕ, true, false, List, [], ◌∷◌, ◌++◌, length, Option, Some, None, Result, Ok, sym, ap, subst, refl, arith, append-nil}
 use Rattle.std.specs.Prelude.{slice_get, slice_set}
 use Rattle.std.proofs.lemmas.Bool.{ltb-true}
-use Rattle.std.proofs.lemmas.List.{length-set}
 use Rattle.std.proofs.lemmas.Option.{same_Some, slice_get_within}
 use Rattle.bus_types.specs.Window.{Span, span_size}
 use Rattle.bus_types.specs.Timeline.{Follows, IsTimelineFrom, end_from}
 use Rattle.bus_types.proofs.Stretches.{end_rises}
 use Rattle.bus_stores.specs.declared.log.LogFault.{LogFault}
-use Rattle.bus_stores.specs.declared.log.LogFault.TheVariants as faults
 use Rattle.bus_stores.specs.Log.{growing_to}
 use Rattle.log_disk.specs.Disk.{DiskState}
 use Rattle.log_segment.specs.declared.segment.TheConstants.{MAX_USED}
 use Rattle.log_segment.specs.Image.{IsFree, HoldsInUse, whole}
-use Rattle.log_segment.specs.Segment.{Numbers, SegmentParts, told, numbers_of, Stands, StandsFree}
+use Rattle.log_segment.specs.Segment.{Numbers, SegmentParts, told, numbers_of, StandsFree}
 use Rattle.log_segment.proofs.Images.{length-begun}
-use Rattle.log_store.specs.First.{PutsFirst, HoldsFirst, HasEnds}
-use Rattle.log_store.specs.Log.{IsIn, IsBefore, AreInOrder, windows_of, HoldLog}
-use Rattle.log_store.specs.Crash.{LeaveBeside, Moves, Passes, HoldPart}
-use Rattle.log_store.specs.Order.{AllBelow, IsRising, Joined, numbers_at, numbers_in, floor_at, last_place, lacks_room}
+use Rattle.log_store.specs.First.{PutsFirst}
+use Rattle.log_store.specs.Log.{IsIn, AreInOrder, windows_of, HoldLog}
+use Rattle.log_store.specs.Crash.{LeaveBeside, Passes, HoldPart}
+use Rattle.log_store.specs.Order.{IsRising, Joined, numbers_at, numbers_in, floor_at, last_place, lacks_room}
 use Rattle.log_store.specs.Seen.{windows_seen}
 use Rattle.log_store.specs.Store.{StoreParts, IsStore, AllStand, StandsSeen, is_told, log_of, windows_at}
 use Rattle.log_store.proofs.Orders.{joined_push, joined_last, joined_below, joined_used, last_is_in, in_push, in_pushed, below_push, push_some, no_last}

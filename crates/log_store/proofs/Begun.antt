@@ -1,25 +1,25 @@
 -- What an append to a segment that is taken into use leaves of the log.
-use Rattle.std.proofs.Common.{◌≡◌, ◌∙◌, ◌<◌, ◌≤◌, ◌+◌, ℕ, Bool, true, false, List, [], ◌∷◌, ◌++◌, length, Option, Some, None, Result, Ok, Err, IfSome, sym, ap, subst, refl, arith}
-use Rattle.std.specs.Prelude.{if◌then◌else◌, slice_get, slice_set, option_map}
+use Rattle.std.proofs.Common.{◌≡◌, ◌∙◌, ◌≤◌, ℕ, Bool, true, false, List, [], ◌∷◌, ◌++◌, length, Option, Some, None, Result, Ok, Err, IfSome, sym, ap, subst, refl, arith}
+use Rattle.std.specs.Prelude.{if◌then◌else◌, slice_get, slice_set}
 use Rattle.std.proofs.lemmas.List.{length-set}
 use Rattle.std.proofs.lemmas.Option.{same_Some, slice_get_within}
 use Rattle.bus_types.specs.Window.{Span, span_size}
 use Rattle.bus_types.specs.Timeline.{Follows}
 use Rattle.bus_stores.specs.declared.log.LogFault.{LogFault}
 use Rattle.bus_stores.specs.declared.log.LogFault.TheVariants as faults
-use Rattle.bus_stores.specs.Log.{AppendsWindow, SameLog, growing_to}
+use Rattle.bus_stores.specs.Log.{growing_to}
 use Rattle.log_disk.specs.Disk.{DiskState}
-use Rattle.log_segment.specs.Segment.{Numbers, SegmentParts, told, fault_count}
+use Rattle.log_segment.specs.Segment.{Numbers, SegmentParts, told}
 use Rattle.log_store.specs.First.{PutsFirst}
 use Rattle.log_store.specs.Log.{IsIn, windows_of}
 use Rattle.log_store.specs.Crash.{HoldPart, Passes}
 use Rattle.log_store.specs.Order.{AllBelow, Joined, numbers_at, floor_at, last_place, lacks_room, if_roomy, is_full, used_at, free_place}
-use Rattle.log_store.specs.Store.{StoreParts, IsStore, AllStand, StandsSeen, is_told, log_of, passes, windows_at, faults_of}
+use Rattle.log_store.specs.Store.{StoreParts, IsStore, StandsSeen, is_told, log_of, passes, windows_at, faults_of}
 use Rattle.log_store.specs.Steps.{Grows}
 use Rattle.log_store.proofs.Orders.{joined_else, joined_used, below_push, push_some, last_is_in}
 use Rattle.log_store.proofs.Seens.{free_seen}
 use Rattle.log_store.proofs.Holdings.{not_both, by_place, sorted_same, windows_else}
-use Rattle.log_store.proofs.Places.{if_told, if_map, faults_set, numbers_here, numbers_else, numbers_before, windows_others, set_here, set_else, free_same}
+use Rattle.log_store.proofs.Places.{if_told, if_map, faults_set, losses_set, numbers_here, numbers_else, numbers_before, windows_others, set_here, set_else, free_same}
 use Rattle.log_store.proofs.Resting.{disks, windows, same_log}
 use Rattle.log_store.proofs.Appending.{unchanged_grows}
 use Rattle.log_store.proofs.Beginning.{begin_passes, begin_windows, begin_stands, begin_joined}
@@ -57,6 +57,7 @@ module _ {D : Type 0} (state : D → DiskState) (old : StoreParts D) (is : IsSto
       leaves = (none_roomy old.segments (span_size w) (last_place old.order) none free, refl);
     };
     crash = unchanged_grows state old is w follows;
+    losses = refl;
   }
 
   -- or memory ran out before
@@ -67,6 +68,7 @@ module _ {D : Type 0} (state : D → DiskState) (old : StoreParts D) (is : IsSto
       leaves = (free_roomy old.segments (span_size w) p (used_at old.segments (last_place old.order)) found, refl);
     };
     crash = unchanged_grows state old is w follows;
+    losses = refl;
   }
 
 module _ {D : Type 0} (state : D → DiskState) (old : StoreParts D) (is : IsStore state old) (w : Span) (follows : Follows old.high w) (p : ℕ) (found : free_place old.segments ≡ Some p)
@@ -111,6 +113,7 @@ module _ {D : Type 0} (state : D → DiskState) (old : StoreParts D) (is : IsSto
       };
     };
     crash = crash_of (Ok x) made (record old { segments = now; order = order; high = scn }) refl;
+    losses = omega (arith, losses_set old.segments p before after stood, made.lost);
   }
 
   begun_is : (x : Unit {0}) → PutsFirst w (told state before) (told state after) (Ok x) → IsStore state (record old { segments = now; order = old.order ++ p ∷ []; high = w.scn })
@@ -137,6 +140,7 @@ module _ {D : Type 0} (state : D → DiskState) (old : StoreParts D) (is : IsSto
       leaves = tt;
     };
     crash = crash_of (Err faults.Failed) made (record old { segments = now; lost = true }) refl;
+    losses = omega (arith, losses_set old.segments p before after stood, made.lost);
   }
 
   pub begin_lost : IsStore state (record old { segments = now; lost = true })
@@ -160,6 +164,7 @@ module _ {D : Type 0} (state : D → DiskState) (old : StoreParts D) (is : IsSto
       );
     };
     crash = crash_of (Err faults.NoMemory) made (record old { segments = now }) refl;
+    losses = omega (arith, losses_set old.segments p before after stood, made.lost);
   }
 
   pub begin_kept_is : PutsFirst w (told state before) (told state after) (Err faults.NoMemory) → IsStore state (record old { segments = now })

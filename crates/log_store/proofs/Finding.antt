@@ -1,6 +1,6 @@
 -- The oldest window behind an SCN is read.
-use Rattle.std.proofs.Common.{◌≡◌, ◌∙◌, ◌<◌, ◌≤◌, ◌+◌, ◌⊎◌, inl, inr, ⊎_elim, ℕ, Bool, true, false, cond, nat_lt, List, [], ◌∷◌, ◌++◌, length, Option, Some, None, Result, Ok, Err, IfSome, IfOk, sym, ap, subst, refl, arith}
-use Rattle.std.specs.Prelude.{slice_get, slice_set, if◌then◌else◌, IfNone, find}
+use Rattle.std.proofs.Common.{◌≡◌, ◌∙◌, ◌<◌, ◌≤◌, inl, inr, ℕ, Bool, true, false, nat_lt, List, [], ◌∷◌, ◌++◌, Option, Some, None, Result, Ok, Err, IfSome, IfOk, sym, ap, subst, refl, arith}
+use Rattle.std.specs.Prelude.{slice_get, slice_set, if◌then◌else◌}
 use Rattle.std.specs.Option.{option_or}
 use Rattle.std.proofs.lemmas.Bool.{cond-true, cond-false, lt-ltb, le-ltb, cases_lt}
 use Rattle.std.proofs.lemmas.List.{length-set}
@@ -9,23 +9,21 @@ use Rattle.std.proofs.lemmas.Option.{same_Some, none-some}
 use Rattle.bus_types.specs.Window.{Span}
 use Rattle.bus_types.specs.Timeline.{IsTimelineFrom, end_from}
 use Rattle.bus_types.proofs.Stretches.{end_rises}
-use Rattle.bus_types.specs.Causes.{Rose}
 use Rattle.bus_stores.specs.declared.log.LogFault.{LogFault}
 use Rattle.bus_stores.specs.declared.log.LogFault.TheVariants as faults
-use Rattle.bus_stores.specs.Log.{LogState, SameLog, OnLogFailed, IsFound, OnFull, first_after, at_rest}
+use Rattle.bus_stores.specs.Log.{OnLogFailed, IsFound, first_after, at_rest}
 use Rattle.log_disk.specs.Disk.{DiskState}
-use Rattle.log_segment.specs.Image.{HoldsInUse}
 use Rattle.log_segment.specs.Lookup.{IsFoundIn, ReadsNext}
-use Rattle.log_segment.specs.Segment.{Numbers, SegmentParts, told, Stands, fault_count}
+use Rattle.log_segment.specs.Segment.{Numbers, SegmentParts, told, Stands}
 use Rattle.log_store.specs.Log.{IsIn, windows_of, HoldLog}
-use Rattle.log_store.specs.Crash.{LeaveBeside, Moves, Passes, HoldPart}
-use Rattle.log_store.specs.Order.{AllBelow, Joined, numbers_at, floor_at, high_at, last_place, place_after, used_at}
+use Rattle.log_store.specs.Crash.{Passes, HoldPart}
+use Rattle.log_store.specs.Order.{AllBelow, Joined, numbers_at, floor_at, high_at, last_place, place_after}
 use Rattle.log_store.specs.Seen.{windows_seen}
-use Rattle.log_store.specs.Store.{StoreParts, IsStore, AllStand, StandsSeen, is_told, log_of, passes, windows_at, faults_of, losses_of}
+use Rattle.log_store.specs.Store.{StoreParts, IsStore, AllStand, StandsSeen, is_told, log_of, windows_at, faults_of, losses_of}
 use Rattle.log_store.specs.Steps.{Reads}
-use Rattle.log_store.proofs.Orders.{joined_all, joined_used, joined_within, joined_ends}
+use Rattle.log_store.proofs.Orders.{joined_all, joined_used, joined_within}
 use Rattle.log_store.proofs.Seens.{stands_seen}
-use Rattle.log_store.proofs.Holdings.{IsPlace, not_both, by_place, unswapped, left_else, left_place, hold_log, held, held_timeline, high_is, sorted_same}
+use Rattle.log_store.proofs.Holdings.{by_place, unswapped, left_else, left_place, hold_log, held, high_is, sorted_same}
 use Rattle.log_store.proofs.Places.{if_told, faults_set, losses_set, set_here, set_else, numbers_here, numbers_else, numbers_before, windows_here, windows_others, windows_before, free_same, used_same}
 use Rattle.log_store.proofs.Parts.{all_part, at_rest_part}
 use Rattle.log_store.proofs.Resting.{disks, windows, line, below_images, rest_log, told_rests, same_log}
@@ -132,6 +130,7 @@ module _ {D : Type 0} (state : D → DiskState) (old : StoreParts D) (is : IsSto
           roomy = tt;
         };
         crash = told_rests state old is;
+        losses = λ told. refl;
       }
 
   module _ (p : ℕ) (place : place_after (high_at old.segments) scn old.order ≡ Some p) (before after : SegmentParts D) (stood : slice_get old.segments p ≡ Some before)
@@ -244,6 +243,7 @@ module _ {D : Type 0} (state : D → DiskState) (old : StoreParts D) (is : IsSto
         roomy = made.roomy;
       };
       crash = if_told (is_told state old) (windows state old) _ read_passes;
+      losses = losses_same;
     }
       where
         told_by : (b : Bool) → is_told state old ≡ b → IfOk r (λ found. IfSome (if b then Some (windows state old) else None) (λ ws. found ≡ first_after scn ws))

@@ -1,5 +1,5 @@
 -- A segment is taken into use with its first window.
-use Rattle.std.proofs.Common.{◌≡◌, ◌∙◌, ◌<◌, ◌≤◌, ◌⊎◌, inl, inr, ⊎_elim, ℕ, List, [], ◌∷◌, ◌++◌, Result, Ok, Err, true, false, sym, ap, subst, arith}
+use Rattle.std.proofs.Common.{◌≡◌, ◌∙◌, ◌⊎◌, inl, inr, ⊎_elim, [], ◌∷◌, Result, Ok, Err, sym, ap, subst, arith}
 use Rattle.bus_types.specs.declared.fault.Failed.{Failed}
 use Rattle.bus_types.specs.Window.{Span}
 use Rattle.bus_stores.specs.declared.log.LogFault.{LogFault}
@@ -7,8 +7,8 @@ use Rattle.bus_stores.specs.declared.log.LogFault.TheVariants as faults
 use Rattle.log_disk.specs.Disk.{DiskState, LeavesOnly}
 use Rattle.log_disk.proofs.Moments.{joined, weaker}
 use Rattle.log_segment.specs.Image.{IsFree, HoldsInUse}
-use Rattle.log_segment.specs.Segment.{Numbers, SegmentParts, SegmentState, told, numbers_of, free_numbers, with_window, fault_count, Stands, StandsFree, BeginsBehind, Frees, Appends}
-use Rattle.log_store.specs.First.{IsRefused, HasEnds, HoldsFirst, PutsFirst}
+use Rattle.log_segment.specs.Segment.{Numbers, SegmentParts, SegmentState, told, numbers_of, with_window, StandsFree, BeginsBehind, Frees, Appends}
+use Rattle.log_store.specs.First.{IsRefused, HoldsFirst, PutsFirst}
 
 module _ (w : Span) (o m : SegmentState) (x : Unit {0}) (b : BeginsBehind w.prev o m (Ok x)) where
   begin_crash : StandsFree o → LeavesOnly o.disk.clock m.disk.clock (HoldsFirst w)
@@ -28,6 +28,7 @@ module _ (w : Span) (o m : SegmentState) (x : Unit {0}) (b : BeginsBehind w.prev
         faults = omega (arith, b.counts.later, a.faults);
         failed = tt;
         leaves = record { in_use = ap (λ (k : Numbers). k.in_use) is; floor = ap (λ (k : Numbers). k.floor) is; high = ap (λ (k : Numbers). k.high) is };
+        lost = ap (λ (k : Numbers). k.lost) is;
         crash = append_crash n (Ok y) a;
         done = λ free. a.done w.prev [] (b.done free);
         back = tt;
@@ -38,6 +39,7 @@ module _ (w : Span) (o m : SegmentState) (x : Unit {0}) (b : BeginsBehind w.prev
     faults = omega (arith, b.counts.later, a.faults);
     failed = omega (arith, b.counts.later, a.failed);
     leaves = tt;
+    lost = ap (λ (k : Numbers). k.lost) a.leaves.1 ∙ ap (λ (k : Numbers). k.lost) b.numbers;
     crash = append_crash n (Err faults.Failed) a;
     done = tt;
     back = tt;
@@ -57,6 +59,7 @@ module _ (w : Span) (o m : SegmentState) (x : Unit {0}) (b : BeginsBehind w.prev
         faults = omega (arith, b.counts.later, freed.counts.later);
         failed = tt;
         leaves = ap (λ (k : Numbers). k.in_use) freed.numbers;
+        lost = ap (λ (k : Numbers). k.lost) freed.numbers ∙ ap (λ (k : Numbers). k.lost) b.numbers;
         crash = undo_crash f (Ok y) freed;
         done = tt;
         back = λ free. freed.done w.prev [] (b.done free);
@@ -66,6 +69,7 @@ module _ (w : Span) (o m : SegmentState) (x : Unit {0}) (b : BeginsBehind w.prev
         faults = omega (arith, b.counts.later, freed.counts.later);
         failed = omega (arith, b.counts.later, freed.counts.failed);
         leaves = tt;
+        lost = ap (λ (k : Numbers). k.lost) freed.numbers ∙ ap (λ (k : Numbers). k.lost) b.numbers;
         crash = undo_crash f (Err e) freed;
         done = tt;
         back = tt;

@@ -1,28 +1,27 @@
 -- The oldest segment is given up.
-use Rattle.std.proofs.Common.{◌≡◌, ◌∙◌, ◌<◌, ◌≤◌, ◌+◌, ◌⊎◌, inl, inr, ⊎_elim, ℕ, Bool, true, false, List, [], ◌∷◌, ◌++◌, length, Option, Some, None, Result, Ok, Err, IfSome, sym, ap, subst, refl, arith}
-use Rattle.std.specs.Prelude.{slice_get, slice_set, max, if◌then◌else◌, option_map}
+use Rattle.std.proofs.Common.{◌≡◌, ◌∙◌, ◌≤◌, ⊎_elim, ℕ, true, false, List, [], ◌∷◌, ◌++◌, length, Option, Some, None, Result, Ok, Err, IfSome, sym, ap, subst, refl, arith}
+use Rattle.std.specs.Prelude.{slice_get, slice_set, max, option_map}
 use Rattle.std.proofs.lemmas.List.{length-set}
 use Rattle.std.proofs.lemmas.Option.{same_Some}
 use Rattle.bus_types.specs.declared.fault.Failed.{Failed}
 use Rattle.bus_types.specs.Window.{Span}
 use Rattle.bus_types.specs.Timeline.{end_from, windows_between}
 use Rattle.bus_types.proofs.Floors.{between-after}
-use Rattle.bus_stores.specs.declared.log.LogFault.{LogFault}
 use Rattle.bus_stores.specs.declared.log.LogFault.TheVariants as faults
-use Rattle.bus_stores.specs.Log.{LogState, Dropped, DropsWindows, Weakens, LieWithin, dropping_to}
+use Rattle.bus_stores.specs.Log.{LogState, Dropped, Weakens, dropping_to}
 use Rattle.log_disk.specs.Disk.{DiskState}
 use Rattle.log_segment.specs.Image.{IsFree, HoldsInUse}
-use Rattle.log_segment.specs.Segment.{Numbers, SegmentParts, told, free_numbers, Stands, StandsFree, Frees}
+use Rattle.log_segment.specs.Segment.{Numbers, SegmentParts, told, free_numbers, Stands, Frees}
 use Rattle.log_store.specs.Log.{IsIn, AreInOrder, windows_of, HoldLog}
-use Rattle.log_store.specs.Crash.{LeaveBeside, Moves, Passes, HoldPart, passes_then, passes_weaker, part_weaker}
+use Rattle.log_store.specs.Crash.{LeaveBeside, Passes, HoldPart, passes_then, passes_weaker, part_weaker}
 use Rattle.log_store.specs.Order.{AllBelow, Joined, numbers_at, floor_at, high_at}
 use Rattle.log_store.specs.Seen.{windows_seen}
-use Rattle.log_store.specs.Store.{StoreParts, IsStore, AllStand, StandsSeen, is_told, log_of, passes, windows_at, faults_of}
+use Rattle.log_store.specs.Store.{StoreParts, IsStore, AllStand, StandsSeen, is_told, log_of, passes, windows_at, faults_of, losses_of}
 use Rattle.log_store.specs.Steps.{Drops}
-use Rattle.log_store.proofs.Orders.{joined_else, joined_all, joined_ends}
+use Rattle.log_store.proofs.Orders.{joined_else, joined_all}
 use Rattle.log_store.proofs.Seens.{free_seen}
 use Rattle.log_store.proofs.Holdings.{IsPlace, not_both, by_place, swap, swap_here, swap_else, swapped, unswapped, left_else, hold_log, high_is, sorted_same, windows_else}
-use Rattle.log_store.proofs.Places.{if_told, if_map, faults_set, set_here, set_else, numbers_here, numbers_else, numbers_before, windows_others, windows_before}
+use Rattle.log_store.proofs.Places.{if_told, if_map, faults_set, losses_set, set_here, set_else, numbers_here, numbers_else, numbers_before, windows_others, windows_before}
 use Rattle.log_store.proofs.Parts.{all_part, later_part, dropping_part}
 use Rattle.log_store.proofs.Resting.{disks, windows, line, below_images, rest_log}
 
@@ -151,6 +150,9 @@ module _ {D : Type 0} (state : D → DiskState) (old : StoreParts D) (is : IsSto
   later_faults : faults_of state ss ≤ faults_of state now
   later_faults = omega (arith, made.counts.later, faults_set state ss p before after stood)
 
+  losses_kept : after.numbers.lost ≡ before.numbers.lost → losses_of now ≡ losses_of ss
+  losses_kept same = omega (arith, losses_set ss p before after stood, same)
+
   crash_of : (new : StoreParts D) → new.segments ≡ now → IfSome (log_of state old).windows (λ ws. passes state ws (dropping_to scn (log_of state old)) old new)
   crash_of new same =
       if_told (is_told state old) (windows state old) _ (λ yes. subst (λ n. Passes (disks state) (HoldPart (windows state old) (dropping_to scn (log_of state old))) ss n) (sym same) (free_passes yes))
@@ -170,6 +172,7 @@ module _ {D : Type 0} (state : D → DiskState) (old : StoreParts D) (is : IsSto
       all = tt;
     };
     crash = crash_of (record old { segments = now; order = order; floor = floor }) refl;
+    losses = losses_kept (ap (λ (n : Numbers). n.lost) (subst (λ a. Frees (told state before) (told state after) a) ok made).numbers);
   }
 
   freed_is : (x : Unit {0}) → r ≡ Ok x → IsStore state (record old { segments = now; order = more; floor = high_at ss p })
@@ -199,6 +202,7 @@ module _ {D : Type 0} (state : D → DiskState) (old : StoreParts D) (is : IsSto
           all = tt;
         };
         crash = crash_of (record old { segments = now; lost = true }) refl;
+        losses = losses_kept (ap (λ (n : Numbers). n.lost) failed.numbers);
       }
 
   pub free_lost : (e : Failed) → r ≡ Err e → IsStore state (record old { segments = now; lost = true })
@@ -230,6 +234,7 @@ drops_none state s scn x is = record {
   };
   crash = if_told (is_told state s) (windows state s) _ (λ yes. Passes.Stays (λ images beside.
       dropping_part (log_of state s) images (windows state s) (windows state s) scn s.floor (omega arith) (omega arith) (all_part s.floor s.high (windows state s) (line state s is yes).0 (line state s is yes).1) (rest_log state s is yes images beside)));
+  losses = refl;
 }
 
 between_twice : (a b c : LogState) (told : Option (List Span)) → a.floor ≤ b.floor → b.floor ≤ c.floor → b.high ≡ a.high
@@ -276,6 +281,7 @@ drops_then state scn a b c x y first second = record {
     all = tt;
   };
   crash = crash_then state scn a b c first.drops.leaves (log_of state a).windows (log_of state b).windows first.drops.leaves.windows first.crash second.crash;
+  losses = second.losses ∙ first.losses;
 }
 
 pub drops_failed : {D : Type 0} (state : D → DiskState) (scn : ℕ) (a b c : StoreParts D) (x : Unit {0}) → Drops state scn a b (Ok x) → Drops state scn b c (Err faults.Failed) → Drops state scn a c (Err faults.Failed)
@@ -286,4 +292,5 @@ drops_failed state scn a b c x first second = record {
     all = tt;
   };
   crash = crash_then state scn a b c first.drops.leaves (log_of state a).windows (log_of state b).windows first.drops.leaves.windows first.crash second.crash;
+  losses = second.losses ∙ first.losses;
 }

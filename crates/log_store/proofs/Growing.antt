@@ -1,24 +1,20 @@
 -- A window is appended to the last segment.
-use Rattle.std.proofs.Common.{◌≡◌, ◌∙◌, ◌<◌, ◌≤◌, ◌+◌, ◌⊎◌, inl, inr, ⊎_elim, ℕ, Bool, true, false, List, [], ◌∷◌, ◌++◌, length, Option, Some, None, Result, Ok, Err, IfSome, sym, ap, subst, refl, arith}
+use Rattle.std.proofs.Common.{◌≡◌, ◌∙◌, ◌≤◌, ⊎_elim, ℕ, true, List, [], ◌∷◌, ◌++◌, Some, Result, Ok, sym, ap, subst, refl, arith}
 use Rattle.std.specs.Prelude.{slice_get, slice_set}
-use Rattle.std.proofs.lemmas.List.{length-set}
 use Rattle.std.proofs.lemmas.Option.{same_Some}
-use Rattle.bus_types.specs.declared.limits.TheConstants.{MAX_SCN}
-use Rattle.bus_types.specs.Window.{Span, span_size}
-use Rattle.bus_types.specs.Timeline.{Follows, end_from}
+use Rattle.bus_types.specs.Window.{Span}
+use Rattle.bus_types.specs.Timeline.{Follows}
 use Rattle.bus_stores.specs.declared.log.LogFault.{LogFault}
-use Rattle.bus_stores.specs.declared.log.LogFault.TheVariants as faults
-use Rattle.bus_stores.specs.Log.{AppendsWindow, OnLogFailed, growing_to}
+use Rattle.bus_stores.specs.Log.{growing_to}
 use Rattle.log_disk.specs.Disk.{DiskState}
 use Rattle.log_segment.specs.Image.{HoldsInUse}
-use Rattle.log_segment.specs.Segment.{Numbers, SegmentParts, told, with_window, Stands, Appends, OnRefused, fault_count}
+use Rattle.log_segment.specs.Segment.{Numbers, SegmentParts, told, with_window, Stands, Appends}
 use Rattle.log_segment.proofs.Segments.{end_push}
-use Rattle.log_store.specs.Change.{Changes}
 use Rattle.log_store.specs.Log.{IsIn, AreInOrder, windows_of, HoldLog}
-use Rattle.log_store.specs.Crash.{LeaveBeside, Moves, Passes, HoldPart}
-use Rattle.log_store.specs.Order.{AllBelow, IsRising, Joined, numbers_at, floor_at, last_place}
+use Rattle.log_store.specs.Crash.{LeaveBeside, Passes, HoldPart}
+use Rattle.log_store.specs.Order.{IsRising, Joined, numbers_at, floor_at, last_place}
 use Rattle.log_store.specs.Seen.{windows_seen}
-use Rattle.log_store.specs.Store.{StoreParts, IsStore, AllStand, StandsSeen, is_told, log_of, passes, windows_at, faults_of}
+use Rattle.log_store.specs.Store.{StoreParts, IsStore, AllStand, StandsSeen, is_told, log_of, windows_at}
 use Rattle.log_store.proofs.Orders.{joined_grow, joined_last, joined_rising, joined_used, last_is_in}
 use Rattle.log_store.proofs.Seens.{stands_seen, stands_windows}
 use Rattle.log_store.proofs.Holdings.{IsPlace, not_both, by_place, swap, swap_here, swap_else, swapped, unswapped, left_else, hold_log, sorted_same, windows_grow}

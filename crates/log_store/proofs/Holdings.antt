@@ -1,6 +1,6 @@
 -- Bytes of disks that are a log.
-use Rattle.std.proofs.Common.{◌≡◌, ◌∙◌, ◌<◌, ◌≤◌, ◌⊎◌, inl, inr, ⊎_elim, ℕ, zero, suc, cond, Bool, true, false, List, [], ◌∷◌, ◌++◌, length, flat_map, Option, Some, None, sym, ap, subst, refl, arith, append_assoc, append-nil}
-use Rattle.std.specs.Prelude.{◌==◌, if◌then◌else◌, slice_get, slice_set}
+use Rattle.std.proofs.Common.{◌≡◌, ◌∙◌, ◌<◌, inl, inr, ⊎_elim, ℕ, zero, suc, Bool, true, false, List, [], ◌∷◌, ◌++◌, length, Option, Some, None, sym, ap, subst, refl, arith, append_assoc, append-nil}
+use Rattle.std.specs.Prelude.{◌==◌, if◌then◌else◌, slice_get}
 use Rattle.std.proofs.lemmas.Bool.{cond-true, cond-false, ne_eqb, eqb-true, eq-eqb, cases_Bool}
 use Rattle.std.proofs.lemmas.Option.{same_Some, none-some, slice_get_within}
 use Rattle.bus_types.specs.Window.{Span}
@@ -8,12 +8,12 @@ use Rattle.bus_types.specs.Timeline.{IsTimelineFrom, end_from}
 use Rattle.bus_types.proofs.Stretches.{timelines_joined, end_from-append}
 use Rattle.log_disk.specs.Disk.{DiskState, may_leave}
 use Rattle.log_segment.specs.Image.{IsFree, HoldsInUse, Ends, whole}
-use Rattle.log_segment.specs.Segment.{Numbers, SegmentParts, SegmentState, told, Stands, StandsFree}
-use Rattle.log_store.specs.Log.{IsIn, IsBefore, IsBeforeAll, AreInOrder, AreJoined, Run, end_of_run, windows_of, HoldRuns, HoldLog}
+use Rattle.log_segment.specs.Segment.{Numbers, SegmentParts, told, Stands}
+use Rattle.log_store.specs.Log.{IsIn, IsBefore, IsBeforeAll, AreInOrder, AreJoined, windows_of, HoldRuns, HoldLog}
 use Rattle.log_store.specs.Crash.{LeaveBeside}
 use Rattle.log_store.specs.Order.{AllBelow, Joined, numbers_in, numbers_at, floor_at, last_place}
 use Rattle.log_store.specs.Seen.{windows_seen}
-use Rattle.log_store.specs.Store.{windows_in, windows_at, StandsSeen, AllStand}
+use Rattle.log_store.specs.Store.{windows_in, windows_at, StandsSeen}
 use Rattle.log_store.proofs.Orders.{in_below, joined_used, last_is_in}
 
 pub not_both : (b : Bool) → b ≡ true → b ≡ false → ⊥

@@ -1,11 +1,9 @@
 -- Disks that are opened one after the other.
-use Rattle.std.proofs.Common.{◌≡◌, ◌∙◌, ◌<◌, ◌≤◌, ◌+◌, ◌⊎◌, inl, inr, ⊎_elim, ℕ, zero, suc, Bool, true, false, List, [], ◌∷◌, ◌++◌, length, map, Option, Some, None, Result, Ok, Err, IfSome, sym, ap, subst, refl, arith, append_assoc, append-nil}
-use Rattle.std.specs.Prelude.{slice_get, is_some, ◌&&◌, not}
-use Rattle.std.proofs.lemmas.Option.{same_Some, none-some}
+use Rattle.std.proofs.Common.{◌∙◌, List, [], ◌∷◌, ◌++◌, sym, ap, subst, append_assoc}
 use Rattle.log_disk.specs.Disk.{DiskState}
-use Rattle.log_segment.specs.Opening.{Opened, NotOpened}
+use Rattle.log_segment.specs.Opening.{Opened}
 use Rattle.log_segment.specs.Segment.{SegmentParts, told}
-use Rattle.log_store.specs.Joining.{AllOpened, OpenedSome, OpensOne, OpensNone, StopsAt}
+use Rattle.log_store.specs.Joining.{AllOpened, OpenedSome, OpensOne}
 
 pub opened_push : {D : Type 0} (state : D → DiskState) (ds : List D) (ss : List (SegmentParts D)) (d : D) (s : SegmentParts D) → AllOpened state ds ss → Opened (state d) (told state s) → AllOpened state (ds ++ d ∷ []) (ss ++ s ∷ [])
 opened_push state [] [] d s all one = (one, tt)

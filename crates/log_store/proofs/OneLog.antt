@@ -1,20 +1,19 @@
 -- Bytes of disks are read in one way.
-use Rattle.std.proofs.Common.{◌≡◌, ◌∙◌, ◌<◌, ◌≤◌, ◌+◌, ◌⊎◌, inl, inr, ⊎_elim, ℕ, cond, Bool, true, false, List, [], ◌∷◌, ◌++◌, length, Option, Some, None, Result, Ok, Err, IfSome, sym, ap, subst, refl, arith}
+use Rattle.std.proofs.Common.{◌≡◌, ◌∙◌, ◌⊎◌, inl, inr, ⊎_elim, ℕ, List, [], ◌∷◌, ◌++◌, Some, None, Result, Ok, Err, sym, ap, subst, refl, arith}
 use Rattle.std.specs.Prelude.{slice_get, ◌==◌, if◌then◌else◌, Vec}
 use Rattle.std.specs.Global.{Global}
-use Rattle.std.proofs.lemmas.Bool.{cases_eq, cases_lt, cond-true, cond-false, eq-eqb}
+use Rattle.std.proofs.lemmas.Bool.{cases_eq, cases_lt, cond-true, eq-eqb}
 use Rattle.std.proofs.lemmas.Option.{same_Some, none-some}
 use Rattle.bus_types.specs.Window.{Span}
 use Rattle.bus_types.specs.Timeline.{end_from}
-use Rattle.bus_stores.specs.Log.{LogState}
 use Rattle.log_disk.specs.Disk.{DiskState}
-use Rattle.log_segment.specs.Image.{IsFree, HoldsInUse}
+use Rattle.log_segment.specs.Image.{HoldsInUse}
 use Rattle.log_segment.specs.Faults.{IsBadAt}
 use Rattle.log_segment.proofs.OneReading.{windows_one, not_free, not_bad, free_not_bad, place_one}
 use Rattle.log_store.specs.declared.opening.OpenLog.{OpenLog}
 use Rattle.log_store.specs.declared.opening.OpenLog.TheVariants as opening
-use Rattle.log_store.specs.Log.{IsIn, IsBefore, IsBeforeAll, AreInOrder, AreJoined, apart_behind, first_apart, windows_of, Run, end_of_run, HoldRuns, HoldLog, IsGood, IsFirstBad, IsFirstApart, AreBadAt}
-use Rattle.log_store.specs.Opening.{AllTell, OpensLog, FindsSame, IsLogOf, IsNotBad, LogOpened, LogNotOpened}
+use Rattle.log_store.specs.Log.{IsIn, IsBefore, IsBeforeAll, AreInOrder, AreJoined, apart_behind, first_apart, windows_of, Run, end_of_run, HoldRuns, HoldLog, IsGood, IsFirstBad, AreBadAt}
+use Rattle.log_store.specs.Opening.{AllTell, OpensLog, FindsSame, IsNotBad, LogNotOpened}
 use Rattle.log_store.specs.Store.{StoreParts, log_of}
 use Rattle.log_store.proofs.Orders.{not_before, before_in}
 use Rattle.log_store.proofs.Holdings.{sorted_same}

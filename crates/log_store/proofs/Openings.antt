@@ -1,29 +1,27 @@
 -- Disks that were opened as a log, or not.
-use Rattle.std.proofs.Common.{◌≡◌, ◌∙◌, ◌<◌, ◌≤◌, ◌+◌, ◌⊎◌, inl, inr, ⊎_elim, ℕ, zero, suc, cond, Bool, true, false, List, [], ◌∷◌, ◌++◌, length, map, Option, Some, None, Result, Ok, Err, IfSome, sym, ap, subst, refl, arith, append_assoc, append-nil}
-use Rattle.std.specs.Prelude.{slice_get, is_some, ◌&&◌, ◌==◌, not, if◌then◌else◌, Vec}
-use Rattle.std.specs.Global.{Global}
+use Rattle.std.proofs.Common.{◌≡◌, ◌∙◌, ◌<◌, ◌≤◌, inl, inr, ⊎_elim, ℕ, zero, suc, Bool, true, false, List, [], ◌∷◌, ◌++◌, length, Option, Some, None, Err, IfSome, sym, ap, subst, refl, arith, append-nil}
+use Rattle.std.specs.Prelude.{slice_get, is_some, ◌&&◌, ◌==◌, if◌then◌else◌}
 use Rattle.std.proofs.lemmas.Option.{same_Some, none-some, slice_get_within}
 use Rattle.bus_types.specs.declared.limits.TheConstants.{MAX_SCN}
-use Rattle.bus_types.specs.Causes.{Rose}
 use Rattle.bus_types.specs.Window.{Span}
 use Rattle.bus_types.specs.Timeline.{end_from}
 use Rattle.log_disk.specs.Disk.{DiskState, may_leave, Only}
 use Rattle.log_segment.specs.declared.segment.SegmentFault.{SegmentFault}
 use Rattle.log_segment.specs.declared.segment.SegmentFault.TheVariants as faults
-use Rattle.log_segment.specs.Image.{IsFree, HoldsInUse}
+use Rattle.log_segment.specs.Image.{HoldsInUse}
 use Rattle.log_segment.specs.Faults.{IsBadAt}
-use Rattle.log_segment.specs.Opening.{Opened, NotOpened, StandsAs, HasFault}
-use Rattle.log_segment.specs.Segment.{Numbers, SegmentParts, SegmentState, told, Stands, StandsFree}
+use Rattle.log_segment.specs.Opening.{Opened, StandsAs, HasFault}
+use Rattle.log_segment.specs.Segment.{Numbers, SegmentParts, told, Stands}
 use Rattle.log_segment.proofs.Lookings.{looks_not}
 use Rattle.log_store.specs.declared.opening.OpenLog.{OpenLog}
 use Rattle.log_store.specs.declared.opening.OpenLog.TheVariants as opening
-use Rattle.log_store.specs.Joining.{AllOpened, OpensNone, StopsAt, AreOrdered, AreApart, OpensApart, OpensOrdered, fault_at}
-use Rattle.log_store.specs.Log.{IsIn, apart_behind, first_apart, windows_of, HoldRuns, HoldLog, IsGood, IsFirstBad, IsFirstApart, AreBadAt, Run, end_of_run}
-use Rattle.log_store.specs.Opening.{AllLook, AllTell, disks_of, disk_faults, FindsLog, LogOpened, LogNotOpened, IsCause, OpensLog}
+use Rattle.log_store.specs.Joining.{AllOpened, StopsAt, OpensApart, OpensOrdered, fault_at}
+use Rattle.log_store.specs.Log.{IsIn, apart_behind, first_apart, windows_of, HoldRuns, IsGood, AreBadAt}
+use Rattle.log_store.specs.Opening.{AllLook, AllTell, disks_of, disk_faults, LogOpened, LogNotOpened, IsCause}
 use Rattle.log_store.specs.Order.{AllBelow, AllRise, Joined, IsOrder, numbers_in, numbers_at, floor_at, high_at, first_floor, last_high}
 use Rattle.log_store.specs.Seen.{windows_seen}
-use Rattle.log_store.specs.Store.{StoreParts, IsStore, AllStand, StandsSeen, is_told, all_tell, log_of, losses_of, windows_at, windows_in}
-use Rattle.log_store.proofs.Orders.{joined_first, below_more}
+use Rattle.log_store.specs.Store.{StoreParts, IsStore, AllStand, StandsSeen, all_tell, losses_of, windows_at, windows_in}
+use Rattle.log_store.proofs.Orders.{joined_first}
 use Rattle.log_store.proofs.Seens.{stands_seen, stands_windows, free_seen}
 use Rattle.log_store.proofs.Holdings.{IsPlace, not_both, hold_log, hold_runs, runs_end}
 

@@ -1,9 +1,9 @@
 -- The windows between the ends of a log, of a list that has more.
-use Rattle.std.proofs.Common.{◌≡◌, ◌∙◌, ◌<◌, ◌≤◌, ℕ, List, [], ◌∷◌, ◌++◌, sym, ap, subst, refl, arith, append-nil}
+use Rattle.std.proofs.Common.{◌≡◌, ◌∙◌, ◌≤◌, ℕ, List, [], ◌∷◌, ◌++◌, sym, ap, subst, arith, append-nil}
 use Rattle.std.specs.Prelude.{max}
 use Rattle.bus_types.specs.Window.{Span}
 use Rattle.bus_types.specs.Timeline.{Follows, IsTimelineFrom, end_from, windows_between}
-use Rattle.bus_types.proofs.Stretches.{between_all, between_above, between-append, timeline-append, end_from-append, end_rises, timeline_rises, rises_all, rises_past, Rises}
+use Rattle.bus_types.proofs.Stretches.{between_all, between_above, between-append, timeline-append, end_from-append, timeline_rises, rises_all, rises_past, Rises}
 use Rattle.bus_types.proofs.Floors.{rises_fore, rises_back}
 use Rattle.bus_stores.specs.Log.{LogState, at_rest, growing_to, dropping_to}
 use Rattle.log_store.specs.Log.{HoldLog}

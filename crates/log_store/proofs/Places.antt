@@ -1,17 +1,14 @@
 -- One segment of a list changed.
-use Rattle.std.proofs.Common.{◌≡◌, ◌∙◌, ◌<◌, ◌≤◌, ◌+◌, ◌-◌, ℕ, zero, suc, cond, Bool, true, false, List, [], ◌∷◌, length, get_or, nat_lt, Option, Some, None, sym, ap, subst, refl, arith}
-use Rattle.std.specs.Prelude.{if◌then◌else◌, slice_get, slice_set, position, not, option_map, ◌&&◌, is_some, IfSome, OnErr}
-use Rattle.std.proofs.lemmas.Bool.{cond-true, cond-false}
+use Rattle.std.proofs.Common.{◌≡◌, ◌∙◌, ◌+◌, ℕ, zero, suc, cond, Bool, true, false, List, [], ◌∷◌, get_or, nat_lt, Option, Some, None, sym, ap, refl, arith}
+use Rattle.std.specs.Prelude.{if◌then◌else◌, slice_get, slice_set, not, option_map, IfSome}
 use Rattle.std.proofs.lemmas.List.{length-set}
 use Rattle.std.proofs.lemmas.Option.{same_Some, none-some, slice_get-get_or, get_or_from_slice_get}
 use Rattle.std.proofs.lemmas.List.Folds.{position_or_len-set}
 use Rattle.std.proofs.lemmas.List.Quantifiers.{position-Some}
 use Rattle.log_disk.specs.Disk.{DiskState}
-use Rattle.log_segment.specs.Segment.{Numbers, SegmentParts, told, fault_count}
-use Rattle.log_store.specs.Log.{IsIn}
-use Rattle.log_store.specs.Order.{AllBelow, Joined, numbers_in, numbers_at, is_free, free_place, last_place, used_at}
-use Rattle.log_store.specs.Store.{StoreParts, faults_of, losses_of, windows_in, windows_at}
-use Rattle.log_store.proofs.Orders.{in_below}
+use Rattle.log_segment.specs.Segment.{SegmentParts, told, fault_count}
+use Rattle.log_store.specs.Order.{numbers_in, numbers_at, is_free, free_place, used_at}
+use Rattle.log_store.specs.Store.{faults_of, losses_of, windows_in, windows_at}
 
 pub set_here : {A : Type 0} (xs : List A) (p : ℕ) (a b : A) → slice_get xs p ≡ Some b → slice_get (slice_set xs p a) p ≡ Some a
 set_here [] p a b at = absurd (none-some b at)

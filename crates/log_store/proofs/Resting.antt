@@ -1,16 +1,15 @@
 -- A log at rest: what is true of it, and what a crash leaves.
-use Rattle.std.proofs.Common.{◌≡◌, ◌∙◌, ◌<◌, ◌≤◌, ℕ, Bool, true, false, List, [], ◌∷◌, ◌++◌, length, Option, Some, None, IfSome, sym, ap, subst, refl, arith}
-use Rattle.std.specs.Prelude.{slice_get, slice_set}
+use Rattle.std.proofs.Common.{◌≡◌, ℕ, true, List, length, None, IfSome, sym, subst, arith}
 use Rattle.std.proofs.lemmas.Option.{slice_get_within}
 use Rattle.bus_types.specs.Window.{Span}
-use Rattle.bus_types.specs.Timeline.{IsTimelineFrom, end_from, windows_between}
+use Rattle.bus_types.specs.Timeline.{IsTimelineFrom, end_from}
 use Rattle.bus_stores.specs.Log.{IsLog, SameLog, at_rest}
 use Rattle.log_disk.specs.Disk.{DiskState}
 use Rattle.log_segment.specs.Segment.{SegmentParts}
 use Rattle.log_store.specs.Log.{windows_of, HoldLog}
-use Rattle.log_store.specs.Crash.{LeaveBeside, LeaveNow, Passes, HoldPart}
+use Rattle.log_store.specs.Crash.{LeaveBeside, Passes}
 use Rattle.log_store.specs.Order.{AllBelow, numbers_at, free_place, is_full, last_place, used_at}
-use Rattle.log_store.specs.Store.{StoreParts, IsStore, AllStand, is_told, log_of, passes, windows_at, faults_of}
+use Rattle.log_store.specs.Store.{StoreParts, IsStore, is_told, log_of, passes, windows_at, faults_of}
 use Rattle.log_store.proofs.Orders.{joined_ends}
 use Rattle.log_store.proofs.Holdings.{hold_log, held_timeline, left_else}
 use Rattle.log_store.proofs.Places.{if_told, if_same}

@@ -1,5 +1,5 @@
 -- The windows of a segment are those that are read from its bytes.
-use Rattle.std.proofs.Common.{◌≡◌, ◌∙◌, ◌<◌, ◌≤◌, ℕ, cond, Bool, true, false, List, [], ◌∷◌, ◌++◌, length, drop, Option, Some, sym, ap, subst, refl, arith, append_assoc, append-nil, length-append}
+use Rattle.std.proofs.Common.{◌≡◌, ◌∙◌, ◌<◌, ◌≤◌, ℕ, Bool, true, false, List, [], ◌∷◌, ◌++◌, length, drop, Some, sym, ap, subst, refl, arith, append_assoc, length-append}
 use Rattle.std.specs.Prelude.{◌==◌}
 use Rattle.std.specs.Int.{w32, to_be_bytes}
 use Rattle.std.proofs.lemmas.Bool.{cond-false, ne_eqb}
@@ -9,8 +9,8 @@ use Rattle.bus_types.specs.Timeline.{IsTimelineFrom}
 use Rattle.event_codec.specs.Bytes.{window_bytes}
 use Rattle.event_codec.specs.Parsing.{window_in_front}
 use Rattle.event_codec.proofs.Parsings.{window_back}
-use Rattle.log_segment.specs.Image.{record_bytes, records, head_bytes, whole, Ends, HoldsInUse}
-use Rattle.log_segment.specs.Segment.{SegmentState, Numbers, Stands, StandsFree, numbers_of, free_numbers}
+use Rattle.log_segment.specs.Image.{record_bytes, records, head_bytes, HoldsInUse}
+use Rattle.log_segment.specs.Segment.{SegmentState, Numbers, Stands, StandsFree}
 use Rattle.log_segment.proofs.Images.{length-head}
 use Rattle.log_store.specs.Seen.{and_behind, windows_within, windows_seen}
 use Rattle.log_store.specs.Store.{StandsSeen}

@@ -44,6 +44,7 @@ pub record PutsFirst (w : Span) (old new : SegmentState) (result : Result Unit L
   pub faults : fault_count old ≤ fault_count new
   pub failed : OnLogFailed result (Rose (fault_count old) (fault_count new))
   pub leaves : FirstLeaves w new.numbers result
+  pub lost : new.numbers.lost ≡ old.numbers.lost
   pub crash : StandsFree old → LeavesOnly old.disk.clock new.disk.clock (HoldsFirst w)
   pub done : OnOk result (StandsFree old → Stands w.prev (w ∷ []) new)
   pub back : OnNoMemory result (StandsFree old → StandsFree new)

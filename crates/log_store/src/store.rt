@@ -1,9 +1,11 @@
-ghost use Rattle.std.specs.Prelude.{◌≡◌, ℕ, ◌<◌, ◌≤◌, ◌++◌, ◌∷◌, [], List, true, length, Some, None, Ok, OnOk, vec_capacity};
+ghost use Rattle.std.specs.Prelude.{◌≡◌, ℕ, ◌<◌, ◌≤◌, ◌++◌, ◌∷◌, [], List, true, length, Some, None, IfSome, Ok, OnOk, vec_capacity};
 ghost use Rattle.bus_types.specs.Window.{span_size};
+ghost use Rattle.bus_stores.specs.Log.{AppendsWindow, ReadsNext, DropsWindows, at_rest, growing_to, dropping_to};
 ghost use Rattle.log_store.specs.Joining.{AllOpened, AreOrdered};
 ghost use Rattle.log_store.specs.Opening.{disks_of, LogOpened, OpensLog, FindsSame};
 ghost use Rattle.log_store.specs.Order.{free_place, high_at, if_roomy, last_place, place_after};
 ghost use Rattle.log_store.specs.Steps.{Grows, Reads, Drops, DropsOldest};
+ghost use Rattle.log_store.specs.Store.{log_of, passes, losses_of, is_told};
 
 use crate::change::{append_at, begin_at, free_at, next_at};
 use crate::opening::{OpenLog, give_back, open_in_order};
@@ -250,7 +252,6 @@ fn push(order: &mut Vec<usize>, place: usize)
 
 impl<D: Disk> WindowLog for LogStore<D> {
     ghost use Rattle.log_store.specs.Crash.{HoldPart, passes_then, passes_weaker, part_weaker};
-    ghost use Rattle.log_store.specs.Store.{log_of, passes};
 
     ghost state = { log_of D.state };
 
@@ -274,21 +275,44 @@ impl<D: Disk> WindowLog for LogStore<D> {
             && free_place(&self.segments).is_none()
     }
 
-    fn append(&mut self, alloc: Global, window: &Window) -> Result<(), LogFault> {
+    fn append(&mut self, alloc: Global, window: &Window) -> Result<(), LogFault>
+        requires chained { window.now.prev ≡ (log_of D.state self.old).high }
+        requires full { 0 < length window.now.changes }
+        ensures append { AppendsWindow window.now (log_of D.state self.old) (log_of D.state self.new) result }
+        ensures crash { IfSome (log_of D.state self.old).windows (λ ws. passes D.state (ws ++ window.now ∷ [])
+            (growing_to window.now.scn (log_of D.state self.old)) self.old self.new) }
+
+        // No disk is found to have lost a window.
+        ensures losses { losses_of self.new.segments ≡ losses_of self.old.segments }
+    {
         match roomy_last(&self.segments, &self.order, window.size()) {
             Some(place) => self.append_last(alloc, place, window),
             None => self.append_next(alloc, window),
         }
     }
 
-    fn next(&mut self, alloc: Global, scn: u64) -> Result<Option<Window>, LogFault> {
+    fn next(&mut self, alloc: Global, scn: u64) -> Result<Option<Window>, LogFault>
+        requires { (log_of D.state self.old).floor ≤ scn }
+        ensures next { ReadsNext scn (log_of D.state self.old) (log_of D.state self.new) result }
+        ensures crash { IfSome (log_of D.state self.old).windows (λ ws. passes D.state ws (at_rest (log_of D.state self.old)) self.old self.new) }
+
+        // A log that tells its windows loses none.
+        ensures losses { is_told D.state self.old ≡ true → losses_of self.new.segments ≡ losses_of self.old.segments }
+    {
         match place_after(&self.segments, &self.order, scn) {
             Some(place) => self.read_at(alloc, place, scn),
             None => Ok(None),
         }
     }
 
-    fn drop_through(&mut self, _alloc: Global, scn: u64) -> Result<(), LogFault> {
+    fn drop_through(&mut self, _alloc: Global, scn: u64) -> Result<(), LogFault>
+        ensures drops { DropsWindows scn (log_of D.state self.old) (log_of D.state self.new) result }
+        ensures crash { IfSome (log_of D.state self.old).windows (λ ws. passes D.state ws
+            (dropping_to scn (log_of D.state self.old)) self.old self.new) }
+
+        // No disk is found to have lost a window.
+        ensures losses { losses_of self.new.segments ≡ losses_of self.old.segments }
+    {
         while self.may_drop(scn) {
             let Ok(()) = self.drop_oldest(scn) else {
                 return Err(LogFault::Failed);

@@ -1,6 +1,6 @@
-use Rattle.std.proofs.Common.{subst, Ok, Err, ◌≡◌, ℕ}
+use Rattle.std.proofs.Common.{subst, Ok, Err, ◌≡◌}
 use Rattle.bus_stores.specs.declared.log.LogFault.{LogFault}
-use Rattle.log_segment.specs.Segment.{SegmentParts, told, Appends, OnRefused, BeginsBehind}
+use Rattle.log_segment.specs.Segment.{told, Appends, OnRefused, BeginsBehind}
 use Rattle.log_store.proofs.Firsts.{first_done, first_failed, undone_by}
 use Rattle.log_store.proofs.first.append_first.Goals as goal
 

@@ -1,5 +1,4 @@
-use Rattle.std.proofs.Common.{◌∙◌, ◌≤◌, ap, length, arith, List, length-append, ◌∷◌, []}
-use Rattle.log_segment.specs.Segment.{SegmentParts}
+use Rattle.std.proofs.Common.{◌∙◌, ap, length, arith, length-append, ◌∷◌, []}
 use Rattle.log_store.proofs.Joinings.{opened_more}
 use Rattle.log_store.proofs.opening.open_all.Goals as goal
 

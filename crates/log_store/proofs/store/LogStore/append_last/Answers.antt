@@ -1,4 +1,4 @@
-use Rattle.std.proofs.Common.{◌≡◌, ◌∙◌, ◌≤◌, length, ap, Ok, Err, arith}
+use Rattle.std.proofs.Common.{◌∙◌, ap, Err, arith}
 use Rattle.log_store.proofs.Views.{as_many, last_below, last_used, last_chained, last_done, last_is, last_failed, last_lost, last_kept, last_kept_is, last_roomy}
 use Rattle.log_store.proofs.store.LogStore.append_last.Goals as goal
 

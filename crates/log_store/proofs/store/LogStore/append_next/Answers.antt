@@ -1,4 +1,4 @@
-use Rattle.std.proofs.Common.{◌≡◌, ◌∙◌, ◌≤◌, ◌++◌, ◌∷◌, [], ℕ, List, length, sym, ap, subst, Ok, Err, true, arith}
+use Rattle.std.proofs.Common.{◌∙◌, ◌++◌, ◌∷◌, [], ℕ, List, sym, ap, subst, Err, true, arith}
 use Rattle.bus_stores.specs.declared.log.LogFault.TheVariants as faults
 use Rattle.log_store.specs.Order.{free_place}
 use Rattle.log_store.specs.Store.{StoreParts, IsStore}

@@ -1,4 +1,4 @@
-use Rattle.std.proofs.Common.{◌≡◌, ◌∙◌, ◌<◌, ◌≤◌, ap, length, drop, arith}
+use Rattle.std.proofs.Common.{◌∙◌, ap, length, drop, arith}
 use Rattle.log_store.specs.Order.{high_at}
 use Rattle.log_store.specs.Store.{StoreParts}
 use Rattle.log_store.proofs.Orders.{first_and_rest}

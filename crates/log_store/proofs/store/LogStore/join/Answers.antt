@@ -1,4 +1,3 @@
-use Rattle.std.proofs.Common.{Err, subst}
 use Rattle.log_store.proofs.Openings.{not_opened, nothing_opened}
 use Rattle.log_store.proofs.store.LogStore.join.Goals as goal
 

@@ -1,5 +1,4 @@
-use Rattle.std.proofs.Common.{◌≡◌, ◌∙◌, ◌≤◌, arith}
-use Rattle.bus_types.specs.declared.limits.TheConstants.{MAX_SCN}
+use Rattle.std.proofs.Common.{◌≡◌, ◌∙◌, arith}
 use Rattle.log_store.specs.Order.{first_floor, floor_at, high_at, last_high}
 use Rattle.log_store.proofs.Openings.{opened_is, log_opened, store_is}
 use Rattle.log_store.proofs.store.LogStore.joined.Goals as goal

@@ -1,4 +1,4 @@
-use Rattle.std.proofs.Common.{◌≤◌, length, arith}
+use Rattle.std.proofs.Common.{arith}
 use Rattle.log_store.proofs.Views.{as_many, read_below, reads, reads_is}
 use Rattle.log_store.proofs.store.LogStore.read_at.Goals as goal
 

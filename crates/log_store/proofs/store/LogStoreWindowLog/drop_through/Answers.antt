@@ -1,4 +1,3 @@
-use Rattle.std.proofs.Common.{Ok, Err, length}
 use Rattle.log_store.proofs.Freeing.{drops_then, drops_failed}
 use Rattle.log_store.proofs.store.LogStoreWindowLog.drop_through.Goals as goal
 
@@ -16,3 +15,6 @@ returns-in_default-clause-drops g c = (c.loop-self.invariant.failed c.drop_oldes
 
 pub returns-in_default-clause-crash : goal.returns-in_default-clause-crash
 returns-in_default-clause-crash g c = (c.loop-self.invariant.failed c.drop_oldest.new.self c.in_default.ensures.drops).crash
+
+pub returns-in_default-clause-losses : goal.returns-in_default-clause-losses
+returns-in_default-clause-losses g c = (c.loop-self.invariant.failed c.drop_oldest.new.self c.in_default.ensures.drops).losses
