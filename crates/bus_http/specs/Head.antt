@@ -46,7 +46,8 @@ answered close (Some route) query = asked close (ask_in route query)
 unfoldable pub requested : Side → List ℕ → List ℕ → ℕ → List (List ℕ × List ℕ) → Result Request RequestFault
 requested side method target minor headers =
     if list_any says_body headers then Err BadHead
-    else if bytes_eq method (codes "GET") then answered (minor == 0 || list_any says_close headers) (route_of side (parts_of target).0) (parts_of target).1
+    else if bytes_eq method (codes "GET") then
+    answered (minor == 0 || list_any says_close headers) (route_of side (parts_of target).0) (parts_of target).1
     else Err BadMethod
 
 abbrev pub meaning : Side → RequestHead → Result Request RequestFault
@@ -59,7 +60,9 @@ pub record IsHead (text : List ℕ) (h : RequestHead) : Type 0 where
 
 -- what a text means up to its end of a head: what its head means, and a bad head where it is none
 abbrev pub Means : Side → List ℕ → Result Request RequestFault → Type 0
-Means side text result = ((h : RequestHead) × IsHead text h × (result ≡ meaning side h)) ⊎ (((h : RequestHead) → IsHead text h → ⊥) × (result ≡ Err BadHead))
+Means side text result =
+    ((h : RequestHead) × IsHead text h × (result ≡ meaning side h))
+    ⊎ (((h : RequestHead) → IsHead text h → ⊥) × (result ≡ Err BadHead))
 
 -- ---- calls
 

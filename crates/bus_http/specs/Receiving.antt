@@ -14,7 +14,8 @@ TakesBody size seen left (Err BadAnswer) rest body = IsAtEnd left × (length see
 TakesBody size seen left (Err NoMemory) rest body = ⊥
 
 pub record TookBody
-    (left_old left_new given_old given_new : Option (List ℕ)) (size : ℕ) (old : List ℕ) (result : Result Unit AnswerFault) (new body : List ℕ) : Type 0 where
+    (left_old left_new given_old given_new : Option (List ℕ)) (size : ℕ)
+    (old : List ℕ) (result : Result Unit AnswerFault) (new body : List ℕ) : Type 0 where
   pub came : List ℕ
   pub left : Consumes left_old left_new came
   pub given : Appends given_old given_new came
@@ -41,7 +42,8 @@ TakesAnswer old text seen left (Err BadAnswer) rest body = SaysNone text ⊎ (Is
 TakesAnswer old text seen left (Err NoMemory) rest body = rest ≡ old
 
 pub record TookAnswer
-    (left_old left_new given_old given_new : Option (List ℕ)) (end : ℕ) (old : List ℕ) (result : Result Unit AnswerFault) (new body : List ℕ) : Type 0 where
+    (left_old left_new given_old given_new : Option (List ℕ)) (end : ℕ)
+    (old : List ℕ) (result : Result Unit AnswerFault) (new body : List ℕ) : Type 0 where
   pub came : List ℕ
   pub left : Consumes left_old left_new came
   pub given : Appends given_old given_new came

@@ -121,7 +121,8 @@ module _ {State : Type 0} (side : Side) (may : State → State → Ask → List 
   abbrev pub Talks : State → State → ℕ → List ℕ → Option (List ℕ) → List ℕ → ServeEnd → List (Turn State) → Type 0
   Talks s t count got left said end [] = Ends s t count got left said end
   Talks s t count got left said end (turn ∷ turns) =
-      (count < most_answers) × ((rest : List ℕ) × (behind : List ℕ) × First side got (Ok (Some turn.request)) rest × may s turn.state turn.request.ask turn.body
+      (count < most_answers) × ((rest : List ℕ) × (behind : List ℕ) × First side got (Ok (Some turn.request)) rest
+      × may s turn.state turn.request.ask turn.body
       × (said ≡ reply_text turn.body ++ behind)
       × Where turn.request.close (IsClosing turn.state t behind end turns) (Talks turn.state t (count + 1) rest left behind end turns))
 

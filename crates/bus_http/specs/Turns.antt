@@ -71,7 +71,8 @@ module _ {State : Type 0} (side : Side) (may : State → State → Ask → List 
   RespondedAs s t request said (Some (BadRequest status)) = (sure ≡ false) × keeps s t × RefusedAs ServerError said (BadRequest status)
   RespondedAs s t request said (Some ReadFault) = ⊥
   RespondedAs s t request said (Some WriteFault) =
-      ((sure ≡ false) × keeps s t × IsFront said (refusal ServerError)) ⊎ ((body : List ℕ) × may s t request.ask body × IsFront said (reply_text body))
+      ((sure ≡ false) × keeps s t × IsFront said (refusal ServerError))
+      ⊎ ((body : List ℕ) × may s t request.ask body × IsFront said (reply_text body))
   RespondedAs s t request said (Some TooMany) = ⊥
   RespondedAs s t request said (Some NoMemory) = keeps s t × (said ≡ [])
 
@@ -95,7 +96,8 @@ module _ {State : Type 0} (side : Side) (may : State → State → Ask → List 
 
   -- what comes of one request, of the bytes that were held and those that came
   pub record Turned
-      (s t : State) (given_old given_new left_old left_new written_old written_new : Option (List ℕ)) (old : List ℕ) (result : Option ServeEnd) (new : List ℕ) : Type 0 where
+      (s t : State) (given_old given_new left_old left_new written_old written_new : Option (List ℕ))
+      (old : List ℕ) (result : Option ServeEnd) (new : List ℕ) : Type 0 where
     pub came : List ℕ
     pub said : List ℕ
     pub given : Appends given_old given_new came

@@ -62,7 +62,8 @@ pub(crate) fn find_end(seen: &mut Seen, place: usize, bytes: &[u8]) -> Option<us
     requires { place + length bytes.now < 2 ^ 64 }
     ensures some { (rest : List ℕ) → IfSome result (λ end. end_after place seen.old (bytes.now ++ rest) ≡ Some end) }
     ensures within { IfSome result (λ end. end ≤ place + length bytes.now) }
-    ensures none { (rest : List ℕ) → IfNone result (end_after place seen.old (bytes.now ++ rest) ≡ end_after (place + length bytes.now) seen.new rest) }
+    ensures none { (rest : List ℕ) → IfNone result (end_after place seen.old (bytes.now ++ rest)
+        ≡ end_after (place + length bytes.now) seen.new rest) }
 {
     for (i, byte) in bytes.iter().enumerate() {
         if seen.ends_with(*byte) {

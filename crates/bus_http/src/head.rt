@@ -92,7 +92,8 @@ fn requested(
     requires method { IsWithin (length text.now) head.now.method }
     requires path { IsWithin (length text.now) head.now.path }
     requires headers { All (IsHeaderWithin (length text.now)) headers.now }
-    ensures means { IfSome (told result) (λ r. r ≡ requested side (span_bytes text.now head.now.method) (span_bytes text.now head.now.path) head.now.version (map (header_bytes text.now) headers.now)) }
+    ensures means { IfSome (told result) (λ r. r ≡ requested side (span_bytes text.now head.now.method)
+        (span_bytes text.now head.now.path) head.now.version (map (header_bytes text.now) headers.now)) }
     ensures ask { IfOk result (λ r. IsAskOf side r.ask) }
 {
     if carries_body(text, headers) {

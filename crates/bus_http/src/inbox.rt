@@ -55,10 +55,12 @@ fn shift(room: &mut [u8], start: usize, end: usize) -> usize
 /// Reads behind so many bytes, and answers how many came: none only where the input has ended.
 pub(crate) fn fill<S: Source>(from: &mut S, room: &mut [u8], used: usize) -> Result<usize, Failed>
     requires { used < length room.old }
-    ensures draws { IfOk result (λ count. Draws (S.left from.old) (S.left from.new) (S.given from.old) (S.given from.new) (take used room.old) (take (used + count) room.new)) }
+    ensures draws { IfOk result (λ count. Draws (S.left from.old) (S.left from.new) (S.given from.old) (S.given from.new)
+        (take used room.old) (take (used + count) room.new)) }
     ensures within { IfOk result (λ count. used + count ≤ length room.new) }
     ensures end { IfOk result (λ count. count ≡ 0 → IsAtEnd (S.left from.new)) }
-    ensures failed { OnErr result (Draws (S.left from.old) (S.left from.new) (S.given from.old) (S.given from.new) (take used room.old) (take used room.new)) }
+    ensures failed { OnErr result (Draws (S.left from.old) (S.left from.new) (S.given from.old) (S.given from.new)
+        (take used room.old) (take used room.new)) }
     ensures cause { HasCause (S.faults from.old) (S.faults from.new) result }
     ensures beside { S.beside from.new ≡ S.beside from.old }
 {

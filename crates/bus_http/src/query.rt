@@ -27,7 +27,8 @@ fn next_named<'a>(
     pairs: &mut RawPairs<'a>,
     name: &[u8],
 ) -> Result<Option<&'a [u8]>, NoMemory>
-    ensures { IfOk result (λ found. option_map (λ value. (value.now, raw_pairs_left pairs.new)) found ≡ first_named name.now (raw_pairs_left pairs.old)) }
+    ensures { IfOk result (λ found. option_map (λ value. (value.now, raw_pairs_left pairs.new)) found
+        ≡ first_named name.now (raw_pairs_left pairs.old)) }
 {
     while let Some((key, value)) = pairs.next() {
         if is_named(alloc, key, name)? {

@@ -28,7 +28,8 @@ fn take_held(inbox: &mut Inbox, room: &mut [u8]) -> usize
 // Reads behind so many bytes of the room until it is full or the input has ended, and answers how many bytes it has then.
 fn fill_up<S: Source>(from: &mut S, room: &mut [u8], used: usize) -> Result<usize, Failed>
     requires { used ≤ length room.old }
-    ensures draws { IfOk result (λ count. Draws (S.left from.old) (S.left from.new) (S.given from.old) (S.given from.new) (take used room.old) (take count room.new)) }
+    ensures draws { IfOk result (λ count. Draws (S.left from.old) (S.left from.new) (S.given from.old) (S.given from.new)
+        (take used room.old) (take count room.new)) }
     ensures within { IfOk result (λ count. count ≤ length room.new) }
     ensures size { length room.new ≡ length room.old }
     ensures ended { IfOk result (λ count. count < length room.new → IsAtEnd (S.left from.new)) }
@@ -58,7 +59,8 @@ fn make_room(body: &mut Vec<u8>, size: usize) -> Result<(), NoMemory>
 
 // Takes a body as long as the room.
 fn take_body<S: Source>(inbox: &mut Inbox, from: &mut S, room: &mut [u8]) -> Result<(), AnswerFault>
-    ensures took { TookBody (S.left from.old) (S.left from.new) (S.given from.old) (S.given from.new) (length room.old) inbox.old result inbox.new room.new }
+    ensures took { TookBody (S.left from.old) (S.left from.new) (S.given from.old) (S.given from.new)
+        (length room.old) inbox.old result inbox.new room.new }
     ensures size { length room.new ≡ length room.old }
     ensures later { S.faults from.old ≤ S.faults from.new }
     ensures failed { IfErr result (λ fault. IsSourceFault fault → Rose (S.faults from.old) (S.faults from.new)) }
@@ -80,7 +82,8 @@ fn take_answer<S: Source>(
     end: usize,
 ) -> Result<(), AnswerFault>
     requires { end ≤ length inbox.old }
-    ensures took { TookAnswer (S.left from.old) (S.left from.new) (S.given from.old) (S.given from.new) end inbox.old result inbox.new body.new.items }
+    ensures took { TookAnswer (S.left from.old) (S.left from.new) (S.given from.old) (S.given from.new)
+        end inbox.old result inbox.new body.new.items }
     ensures later { S.faults from.old ≤ S.faults from.new }
     ensures failed { IfErr result (λ fault. IsSourceFault fault → Rose (S.faults from.old) (S.faults from.new)) }
     ensures beside { S.beside from.new ≡ S.beside from.old }

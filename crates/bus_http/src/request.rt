@@ -41,7 +41,8 @@ fn refused(fault: HeadFault) -> Option<RequestFault>
 // Takes the head of so many bytes of a request that isn't one, unless memory ran out.
 fn refuse(inbox: &mut Inbox, end: usize, fault: HeadFault) -> RequestFault
     requires { end ≤ length inbox.old }
-    ensures takes { (side : SideValue) → IfSome (told (Err fault)) (Means side (take end inbox.old)) → Takes side end inbox.old (Err result) inbox.new }
+    ensures takes { (side : SideValue) → IfSome (told (Err fault)) (Means side (take end inbox.old))
+        → Takes side end inbox.old (Err result) inbox.new }
     ensures read { IsReadFault result → ⊥ }
 {
     let Some(refused) = refused(fault) else {

@@ -102,7 +102,8 @@ fn respond<S: Service, W: Sink>(
     request: &Request,
 ) -> Option<ServeEnd>
     requires { IsAskOf S.side request.now.ask }
-    ensures responding { Responding S.side S.may S.keeps S.sure (S.state service.old) (S.state service.new) request.now (W.written out.old) (W.written out.new) result }
+    ensures responding { Responding S.side S.may S.keeps S.sure (S.state service.old) (S.state service.new)
+        request.now (W.written out.old) (W.written out.new) result }
     ensures later { W.faults out.old ≤ W.faults out.new }
     ensures risen { IfSome result (λ end. IsWriteEnd end → Rose (W.faults out.old) (W.faults out.new)) }
     ensures beside { W.beside out.new ≡ W.beside out.old }
@@ -123,7 +124,8 @@ fn turn<S: Service, C: Conn>(
     inbox: &mut Inbox,
     room: &mut Room,
 ) -> Option<ServeEnd>
-    ensures turned { Turned S.side S.may S.keeps S.sure (S.state service.old) (S.state service.new) (C.given conn.old) (C.given conn.new) (C.left conn.old) (C.left conn.new)
+    ensures turned { Turned S.side S.may S.keeps S.sure (S.state service.old) (S.state service.new)
+        (C.given conn.old) (C.given conn.new) (C.left conn.old) (C.left conn.new)
         (C.written conn.old) (C.written conn.new) inbox.old result inbox.new }
     ensures later { (C.Source.faults conn.old ≤ C.Source.faults conn.new) × (C.Sink.faults conn.old ≤ C.Sink.faults conn.new) }
     ensures read { IfSome result (λ end. IsReadEnd end → Rose (C.Source.faults conn.old) (C.Source.faults conn.new)) }
@@ -143,7 +145,8 @@ fn turn<S: Service, C: Conn>(
 /// and `WriteFault` only where the connection's counts rose; `TooMany` behind the 1,000,000th answer, where its request didn't ask
 /// to close, and then nothing more is read; `NoMemory` where memory ran out.
 pub fn serve<S: Service, C: Conn>(alloc: Global, service: &mut S, conn: &mut C) -> ServeEnd
-    ensures served { Served S.side S.may S.keeps S.sure (S.state service.old) (S.state service.new) (C.given conn.old) (C.given conn.new) (C.left conn.old) (C.left conn.new)
+    ensures served { Served S.side S.may S.keeps S.sure (S.state service.old) (S.state service.new)
+        (C.given conn.old) (C.given conn.new) (C.left conn.old) (C.left conn.new)
         (C.written conn.old) (C.written conn.new) result }
     ensures surely { S.sure ≡ true → result ≡ ServeEnd.BadRequest 500 → ⊥ }
     ensures later { (C.Source.faults conn.old ≤ C.Source.faults conn.new) × (C.Sink.faults conn.old ≤ C.Sink.faults conn.new) }

@@ -3,11 +3,13 @@
 //! nothing stands on it.
 #![tactic(auto)]
 
+mod answers;
 mod drip;
 mod reading;
 mod words;
 mod writing;
 
+use answers::{show_answers, show_asked};
 use reading::show_requests;
 use std::fs;
 use std::test::Fail;
@@ -35,6 +37,12 @@ fn show(rt: &HostRuntime, row: &str) -> Result<(), Fail> {
             let (call, rest) = cut(rest);
             show_requests(rt, rest, &[words::number(call)])
         }
+        "answer" => show_answers(rt, rest, &[]),
+        "lost" => {
+            let (call, rest) = cut(rest);
+            show_answers(rt, rest, &[words::number(call)])
+        }
+        "ask" => show_asked(rt, rest),
         "head" => show_head(rt, rest),
         "refusal" => show_refusal(rt, rest),
         _ => Ok(()),

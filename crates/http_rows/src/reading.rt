@@ -41,7 +41,8 @@ pub fn show_requests(rt: &HostRuntime, row: &str, fails: &[u64]) -> Result<(), F
     Ok(())
 }
 
-fn side_of(word: &str) -> Side {
+/// The side that a word names.
+pub fn side_of(word: &str) -> Side {
     match word {
         "relay" => Side::Relay,
         _ => Side::Boot,
@@ -84,8 +85,8 @@ fn word(alloc: Global, fault: RequestFault) -> Result<String, NoMemory> {
     Ok(String::from_str(alloc, text)?)
 }
 
-// The words of a request, of which the last says whether the connection is closed behind it.
-fn told(alloc: Global, request: &Request) -> Result<String, NoMemory> {
+/// The words of a request, of which the last says whether the connection is closed behind it.
+pub fn told(alloc: Global, request: &Request) -> Result<String, NoMemory> {
     let mut text = asked(alloc, &request.ask)?;
     text.push_str(if request.close { " close" } else { "" })?;
     Ok(text)
