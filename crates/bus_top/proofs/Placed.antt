@@ -14,7 +14,7 @@ use Rattle.bus_stores.specs.Memory.{stop_at}
 use Rattle.client_switch.specs.Moves.Wish.{NoWish}
 use Rattle.trace_script.specs.declared.line.Line.{Line}
 use Rattle.trace_script.specs.declared.line.Line.TheVariants.{Blank, Relay, Consumer, Commit, Gen, Feed, Log, Apply, Trim, RestartBoot, Poll, Crash, Stop, Show, Sum, Stream}
-use Rattle.trace_script.specs.Generated.{generated}
+use Rattle.generated_windows.specs.Generated.{generated}
 use Rattle.trace_script.specs.Lines.{line_of}
 use Rattle.trace_script.specs.Spelling.{is_in_range}
 use Rattle.trace_script.specs.Input.{RawLine, is_too_long}

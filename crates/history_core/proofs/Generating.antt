@@ -4,8 +4,8 @@ use Rattle.std.proofs.lemmas.Bool.{le-ltb}
 use Rattle.bus_types.specs.Window.{Span}
 use Rattle.bus_types.specs.Timeline.{Follows, end_of}
 use Rattle.bus_types.proofs.Stretches.{end_from-append}
-use Rattle.trace_script.specs.Generated.{above, generated_window, after_window, generated}
-use Rattle.trace_script.proofs.Generating.{generated_follows}
+use Rattle.generated_windows.specs.Generated.{above, generated_window, after_window, generated}
+use Rattle.generated_windows.proofs.Generating.{generated_follows}
 use Rattle.history_core.specs.Script.{State}
 use Rattle.history_core.specs.Steps.{most_commits, last_generated, gen_step}
 use Rattle.history_core.specs.Bus.{Parts, IsSound}

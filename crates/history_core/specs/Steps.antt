@@ -18,7 +18,7 @@ use Rattle.client_switch.specs.Moves.Wish.{NoWish}
 use Rattle.event_codec.specs.Questions.Question.{Stream, Start, Scan, Target, Catchup, Delta}
 use Rattle.bus_wire.specs.True.{Boot, reply_of, boot_reply}
 use Rattle.history_core.specs.Script.{Follower, State, floor, numbers_line, stream_line, reply_text, stopped_line, shown, summed}
-use Rattle.trace_script.specs.Generated.{generated}
+use Rattle.generated_windows.specs.Generated.{generated}
 use Rattle.trace_script.specs.Printed.{relay_line, gap_line}
 
 -- what a line leaves: the state after it and the text that it prints, or nothing where it is against a rule

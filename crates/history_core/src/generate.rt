@@ -1,6 +1,6 @@
 ghost use Rattle.std.specs.Prelude.{◌≡◌, ◌≤◌, ◌++◌, OnOk};
 ghost use Rattle.bus_types.specs.Timeline.{end_of};
-ghost use Rattle.trace_script.specs.Generated.{generated};
+ghost use Rattle.generated_windows.specs.Generated.{generated};
 ghost use Rattle.history_core.specs.Steps.{last_generated};
 
 use bus_types::NoMemory;

@@ -10,4 +10,3 @@ pub mod LineLaws
 pub mod WrittenTexts
 pub mod CutLines
 pub mod WordCuts
-pub mod Generating

@@ -6,4 +6,3 @@ pub mod Reading
 pub mod Input
 pub mod Cutting
 pub mod Printed
-pub mod Generated

@@ -8,7 +8,6 @@ mod change;
 mod cutting;
 mod digits;
 mod fault;
-mod generate;
 mod laws;
 mod line;
 mod name;
@@ -18,7 +17,7 @@ mod writing;
 
 pub use cutting::LineCutter;
 pub use fault::{CutFault, LineFault};
-pub use generate::{GenFault, gen_window, worked_windows};
+pub use generated_windows::{GenFault, gen_window};
 pub use laws::{the_limits_of_inputs, the_limits_of_lines, worked_lines, worked_replies};
 pub use line::Line;
 pub use name::Name;

@@ -1,6 +1,6 @@
 use Rattle.std.proofs.Common.{◌≡◌, ◌+◌, ◌-◌, ◌*◌, ◌≤◌, ◌++◌}
 use Rattle.bus_types.specs.Timeline.{end_of}
-use Rattle.trace_script.specs.Generated.{generated}
+use Rattle.generated_windows.specs.Generated.{generated}
 use Rattle.history_core.proofs.generate.commit_generated.Given as goal
 
 abbrev pub invariant-loop-i : goal.invariant-loop-i

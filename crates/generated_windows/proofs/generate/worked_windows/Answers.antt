@@ -1,6 +1,6 @@
 use Rattle.std.proofs.Common.{refl}
-use Rattle.trace_script.specs.Generated.{next_state, generated_window}
-use Rattle.trace_script.proofs.generate.worked_windows.Goals as goal
+use Rattle.generated_windows.specs.Generated.{next_state, generated_window}
+use Rattle.generated_windows.proofs.generate.worked_windows.Goals as goal
 
 pub returns : goal.returns
 unfolding next_state generated_window

@@ -1,5 +1,5 @@
-use Rattle.trace_script.proofs.Generating.{changes_more, after_more}
-use Rattle.trace_script.proofs.generate.changes.Goals as goal
+use Rattle.generated_windows.proofs.Generating.{changes_more, after_more}
+use Rattle.generated_windows.proofs.generate.changes.Goals as goal
 
 pub loop-i-preserved : goal.loop-i-preserved
 loop-i-preserved c =

@@ -1,7 +1,7 @@
 ghost use Rattle.std.specs.Prelude.{◌≡◌, ◌+◌, ◌<◌, ◌≤◌, ◌^◌, [], ◌∷◌, length, Some, IfOk, OnOk, OnErr};
 ghost use Rattle.bus_types.specs.Window.{Span};
 ghost use Rattle.bus_types.specs.declared.change.Key.TheVariants.{Long};
-ghost use Rattle.trace_script.specs.Generated.{
+ghost use Rattle.generated_windows.specs.Generated.{
   next_state,
   drawn,
   draws,

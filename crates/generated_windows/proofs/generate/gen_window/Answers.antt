@@ -1,6 +1,6 @@
 use Rattle.std.proofs.Common.{◌∙◌}
-use Rattle.trace_script.proofs.Generating.{window_made, state_made, made_faultless, made_facts}
-use Rattle.trace_script.proofs.generate.gen_window.Goals as goal
+use Rattle.generated_windows.proofs.Generating.{window_made, state_made, made_faultless, made_facts}
+use Rattle.generated_windows.proofs.generate.gen_window.Goals as goal
 
 pub unreachable-requires : goal.unreachable-requires
 unreachable-requires c =

@@ -7,7 +7,7 @@ use Rattle.bus_types.specs.declared.limits.TheConstants.{MAX_SCN, MAX_PAYLOAD, M
 use Rattle.bus_types.specs.Change.{payload_size, changes_size, AreChanges}
 use Rattle.bus_types.specs.Window.{Span, span_size, bad_scn, window_fault}
 use Rattle.bus_types.specs.Timeline.{Follows}
-use Rattle.trace_script.specs.Generated.{drawn, next_state, bytes_from, put_of, generated_change, generated_changes, after_change, after_changes, above, count_of, generated_window, after_window}
+use Rattle.generated_windows.specs.Generated.{drawn, next_state, bytes_from, put_of, generated_change, generated_changes, after_change, after_changes, above, count_of, generated_window, after_window}
 
 -- ---- bytes
 

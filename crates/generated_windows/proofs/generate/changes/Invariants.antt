@@ -1,6 +1,6 @@
 use Rattle.std.proofs.Common.{◌≡◌, ◌-◌, ◌++◌}
-use Rattle.trace_script.specs.Generated.{generated_changes, after_changes}
-use Rattle.trace_script.proofs.generate.changes.Given as goal
+use Rattle.generated_windows.specs.Generated.{generated_changes, after_changes}
+use Rattle.generated_windows.proofs.generate.changes.Given as goal
 
 abbrev pub invariant-loop-i : goal.invariant-loop-i
 invariant-loop-i l = record {
