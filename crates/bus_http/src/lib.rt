@@ -1,6 +1,7 @@
-//! The exchange of asks and replies over HTTP/1.1: requests read from a source, heads of replies and refusals written to a
-//! sink, and the same from the side of a client. It stands on `bus_io`, `bus_wire`, `partition_filter` and the kit's
-//! `httparse`, `form_urlencoded` and `itoa`. The layers above rely on which ask the first request of some bytes is.
+//! The exchange of asks and replies over HTTP/1.1: requests read from a source, answers and refusals written to a sink, the same from
+//! the side of a client, and `serve`, which answers the requests of a connection by the replies of a `Service`. It stands on
+//! `bus_io`, `bus_wire`, `partition_filter` and the kit's `httparse`, `form_urlencoded` and `itoa`. The layers above rely on which
+//! ask the first request of some bytes is, and on the talk that a served connection was.
 #![tactic(auto)]
 
 mod answer;
