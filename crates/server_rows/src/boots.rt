@@ -47,16 +47,16 @@ fn append(alloc: Global, log: &mut MemoryLog, scn: u64, key: u64) -> Result<(), 
     Ok(())
 }
 
-// A window of these changes behind an SCN.
-fn window(scn: u64, prev: u64, changes: Vec<Change>) -> Option<Window>
+/// A window of these changes behind an SCN.
+pub fn window(scn: u64, prev: u64, changes: Vec<Change>) -> Option<Window>
     ensures prev { IfSome result (λ w. w.prev ≡ prev) }
     ensures full { IfSome result (λ w. 0 < length w.changes) }
 {
     Window::new(scn, prev, changes).ok()
 }
 
-// A put whose payload is its SCN in decimal.
-fn put(alloc: Global, key: u64, scn: u64) -> Result<Change, Fail> {
+/// A put whose payload is its SCN in decimal.
+pub fn put(alloc: Global, key: u64, scn: u64) -> Result<Change, Fail> {
     Ok(Change {
         source: 0,
         key: Key::Long(key),

@@ -1,14 +1,16 @@
-//! Rows of connections to a bootstrap: it prints each line of `data/rows`, what was written to the connection and how its serving
-//! ended. What has to be printed stands in `stdout`, from outside the program. It stands on `bootstrap_server`, and on `bus_stores`
-//! and `bus_io` for a log, a keeper and connections in memory; nothing stands on it.
+//! Rows of connections to a bootstrap and to a relay: it prints each line of `data/rows`, what was written to the connection and how its serving
+//! ended. What has to be printed stands in `stdout`, from outside the program. It stands on `bootstrap_server` and
+//! `relay_server`, and on `bus_stores`, `plain_buffer` and `bus_io` for what is served and for connections in memory; nothing stands on it.
 #![tactic(auto)]
 
 mod boots;
+mod relays;
 mod words;
 
 use boots::{Shared, new_boot};
 use bootstrap_server::serve_bootstrap;
 use bus_io::{MemoryConn, MemorySink, MemorySource};
+use relays::show_relayed;
 use std::fs;
 use std::sync::Wait;
 use std::test::Fail;
@@ -39,6 +41,7 @@ fn show(
     let (word, rest) = cut(row);
     match word {
         "serve" => show_served(rt, lock, whole, rest, 65_536, &[], &[]),
+        "relay" => show_relayed(rt, rest),
         "broken" => show_served(rt, lock, broken, rest, 65_536, &[], &[]),
         "room" => {
             let (room, text) = cut(rest);
