@@ -48,7 +48,8 @@ fn publish(alloc: Global, buffer: &mut PlainBuffer, window: &Window) -> Option<(
     buffer.publish(alloc, window).ok()
 }
 
-// Asks so often for what stands behind an SCN, reads every byte of it, and goes on behind it, or at the floor again.
+// Asks so often for what stands behind an SCN, reads every byte of it, and goes on behind it. Where that isn't kept
+// any more, it goes on 512 windows above the floor, so that the feeder doesn't overtake it at once.
 fn read<R: Wait + Clock>(
     rt: &R,
     alloc: Global,
@@ -67,7 +68,7 @@ fn read<R: Wait + Clock>(
                 read.add(count as u64, sum_of(&reply));
                 scn.saturating_add(count as u64)
             }
-            Served::NotFound(floor) => floor,
+            Served::NotFound(floor) => floor.saturating_add(512),
             Served::Empty(_) | Served::TooSmall(_) => 0,
         };
     }

@@ -94,7 +94,8 @@ fn entry(alloc: Global, prev: u64, payload: u64) -> Option<Entry<Untold>>
     Entry::new(alloc, &window, prev).ok()
 }
 
-// Opens so often what stands behind an SCN, reads every byte of it, and goes on behind it, or at the floor again.
+// Opens so often what stands behind an SCN, reads every byte of it, and goes on behind it. Where that isn't kept
+// any more, it goes on 512 windows above the floor, so that the feeder doesn't overtake it at once.
 fn read<R: Wait + Clock>(
     rt: &R,
     ring: &Ring<Untold>,
@@ -114,7 +115,7 @@ fn read<R: Wait + Clock>(
                 read.add(count, sum_of_range(&range));
                 scn.saturating_add(count)
             }
-            Opened::NotFound { floor } => floor,
+            Opened::NotFound { floor } => floor.saturating_add(512),
             Opened::Empty { .. } | Opened::TooSmall { .. } => 0,
         };
     }
