@@ -1,14 +1,16 @@
 #!/bin/bash
 # Times the log on real files of a folder, which is given.
 #
-# First it appends windows of 100 bytes and of 64 KiB, in turn with a plain program that makes the same two writes with two calls of
-# fdatasync an append, and with it by two calls of fsync: forty slices of 100 ms each, each on a new file. It prints the appends a
-# second of all slices together, of the median append, and of those that a quarter and a tenth are faster than; and each time the log's
-# share of the plain program's. On a busy machine a call that waits for the disk may wait for a processor too, up to 4 ms: the median
-# and what is faster say most there.
+# First it appends windows of 100 bytes and of 64 KiB for a second, in turn with a plain program that makes the same two writes with two
+# calls of fdatasync an append, and with it by two calls of fsync: twenty slices of 50 ms each, each on a new file. It prints the appends
+# a second of all slices together, of the median append, and of those that a quarter and a tenth are faster than; and each time the
+# log's share of the plain program's.
 #
 # Then it opens files that are segments of windows of 100 bytes, the last of them full, and reads the windows behind 1,000 random SCNs:
 # with the file's pages dropped from memory before, and with them in memory. It prints the least of seven runs.
+#
+# Where it may, it runs the programs before all others (chrt). Else, on a busy machine, a call that the disk has answered waits for a
+# processor, up to 4 ms, and the times are of that wait alone.
 #
 # Build it first: (cd crates/log_bench && rt run)
 set -euo pipefail
@@ -18,18 +20,21 @@ trap 'rm -rf "$folder"' EXIT
 cd "$(dirname "$0")/.."
 program=crates/log_bench/out/log_bench
 [ -x "$program" ] || { echo "build the program first: (cd crates/log_bench && rt run)"; exit 1; }
+first=()
+if chrt -f 1 true 2> "$folder/refused"; then first=(chrt -f 1); fi
 rustc --edition=2021 -O -C panic=abort -o "$folder/floor" bench/floor.rs
 
 grep -m1 "model name" /proc/cpuinfo
 df --output=source,fstype "$folder" | tail -1
 uptime
+echo "programs run by: ${first[*]:-their turn}"
 
 # No file is cut or removed between the slices, since the disk would still be at it in the next one.
 slices() {
-    for round in $(seq 40); do
-        "$program" append "$folder/log.$1.$round" "$1" 100 >> "$folder/log.times"
-        "$folder/floor" "$folder/data.$1.$round" "$1" 100 data >> "$folder/data.times"
-        "$folder/floor" "$folder/all.$1.$round" "$1" 100 all >> "$folder/all.times"
+    for round in $(seq 20); do
+        "${first[@]}" "$program" append "$folder/log.$1.$round" "$1" 50 >> "$folder/log.times"
+        "${first[@]}" "$folder/floor" "$folder/data.$1.$round" "$1" 50 data >> "$folder/data.times"
+        "${first[@]}" "$folder/floor" "$folder/all.$1.$round" "$1" 50 all >> "$folder/all.times"
     done
 }
 
@@ -62,7 +67,7 @@ drop() { dd of="$folder/file" oflag=nocache conv=notrunc,fdatasync count=0 2> "$
 opened() {
     for _ in $(seq 7); do
         [ "$2" = memory ] || drop
-        "$program" "$folder/file"
+        "${first[@]}" "$program" "$folder/file"
     done | awk -v windows="$1" -v from="$2" '
         NR == 1 || $6 < open_ns { open_ns = $6 }
         NR == 1 || $12 < read_ns { read_ns = $12 }
