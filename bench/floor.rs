@@ -1,6 +1,7 @@
 //! A plain program that writes what a log writes at each append, for times beside the product's: the record behind a closed gate,
-//! and then the open gate, each made lasting. Nothing is made, checked or kept besides. Its words are a path, the bytes of a window,
-//! a time in milliseconds, and `data` (`fdatasync`) or `all` (`fsync`). The file is made anew.
+//! and then the open gate, each made lasting. Nothing is made, checked or kept besides. It prints the nanoseconds of each append.
+//! Its words are a path, the bytes of a window, a time in milliseconds, and `data` (`fdatasync`) or `all` (`fsync`). The file is made
+//! anew.
 use std::fs::{File, OpenOptions};
 use std::io;
 use std::os::unix::fs::FileExt;
@@ -26,17 +27,21 @@ fn main() -> io::Result<()> {
 
     // the length of a window, the window, and a closed gate
     let text = vec![0; 4 + size + 1];
-    let (mut used, mut windows, mut taken) = (18, 0, Duration::ZERO);
+    let (mut used, mut times) = (18, Vec::new());
+    let mut taken = Duration::ZERO;
     while taken < limit && used + text.len() as u64 <= MAX_USED {
         let start = Instant::now();
         file.write_all_at(&text, used)?;
         sync(&file)?;
         file.write_all_at(&[0xa5], used - 1)?;
         sync(&file)?;
-        taken += start.elapsed();
+        let time = start.elapsed();
+        taken += time;
         used += text.len() as u64;
-        windows += 1;
+        times.push(time.as_nanos());
     }
-    println!("windows {windows} nanoseconds {}", taken.as_nanos());
+    for time in times {
+        println!("{time}");
+    }
     Ok(())
 }

@@ -5,16 +5,6 @@ use log_store::LogStore;
 use std::alloc::Global;
 use std::time::Instant;
 
-// The most windows that are appended.
-const MOST: u64 = 10_000_000;
-
-/// How many windows were appended, and how long the log took for them.
-#[derive(Clone, Copy, Debug, Drop)]
-pub(crate) struct Appended {
-    pub windows: u64,
-    pub nanoseconds: u128,
-}
-
 /// A log over one disk.
 pub(crate) fn open<D: Disk + Drop>(alloc: Global, disk: D) -> Option<LogStore<D>> {
     let mut disks = Vec::new(alloc);
@@ -36,29 +26,26 @@ fn append_next<L: WindowLog>(rt: &HostRuntime, log: &mut L, size: usize) -> Opti
     Some(start.elapsed(rt).ok()?.as_nanos())
 }
 
-/// Appends windows of so many bytes until the log took so many nanoseconds or is full, at most so many windows. It answers `None`
-/// where an append failed.
+/// Appends windows of so many bytes until the log took so many nanoseconds or is full, at most so many windows. It answers the
+/// nanoseconds that each took, and `None` where an append failed.
 pub(crate) fn append_for<L: WindowLog>(
     rt: &HostRuntime,
     log: &mut L,
     size: usize,
     limit: u128,
     most: u64,
-) -> Option<Appended> {
-    let mut nanoseconds: u128 = 0;
-    for windows in 0..most.min(MOST) {
-        if nanoseconds >= limit || log.is_full(size as u64) {
-            return Some(Appended {
-                windows,
-                nanoseconds,
-            });
+) -> Option<Vec<u128>> {
+    let mut times = Vec::new(rt.alloc());
+    let mut whole: u128 = 0;
+    for _ in 0..most {
+        if whole >= limit || log.is_full(size as u64) {
+            return Some(times);
         }
-        nanoseconds = nanoseconds.saturating_add(append_next(rt, log, size)?);
+        let time = append_next(rt, log, size)?;
+        whole = whole.saturating_add(time);
+        times.push(time).ok()?;
     }
-    Some(Appended {
-        windows: most.min(MOST),
-        nanoseconds,
-    })
+    Some(times)
 }
 
 // The bytes of the oldest window behind an SCN.

@@ -1,7 +1,7 @@
 //! The program `log_bench`: appends windows to a log on a file for a time, writes a file that is a segment with many windows, and
-//! opens such a file and reads windows of it. It prints how long the log took. Its words are `append`, a path, the bytes of a window
-//! and a time in milliseconds; or `fill`, a path, the bytes of a window and how many windows; or a path. The file of the first two
-//! is made anew. It stands on `log_store`; nothing stands on it.
+//! opens such a file and reads windows of it. It prints the nanoseconds that the log took, those of each append on a line of its own.
+//! Its words are `append`, a path, the bytes of a window and a time in milliseconds; or `fill`, a path, the bytes of a window and how
+//! many windows; or a path. The file of the first two is made anew. It stands on `log_store`; nothing stands on it.
 #![tactic(auto)]
 
 mod image;
@@ -14,12 +14,16 @@ use image::image;
 use log::{append_for, open, read_many};
 use log_disk::{FileDisk, MemoryDisk};
 use log_segment::Segment;
+use log_store::LogStore;
 use std::fs::File;
 use std::time::Instant;
 use std::{env, fs, io};
 
 // How many windows are read.
 const READS: u64 = 1000;
+
+// The most windows that are appended.
+const MOST: u64 = 1_000_000;
 
 fn main(rt: HostRuntime) -> io::Result<()> {
     let words: Vec<String> = env::args(&rt)?.skip(1).collect(rt.alloc())?;
@@ -97,7 +101,18 @@ fn new_disk(rt: &HostRuntime, path: &str) -> io::Result<Option<FileDisk>> {
     Ok(Some(disk))
 }
 
-// Appends windows to a new file for so many milliseconds.
+// Appends windows for so many nanoseconds, behind one that takes the segment into use and is not counted.
+fn append_timed(
+    rt: &HostRuntime,
+    log: &mut LogStore<FileDisk>,
+    size: usize,
+    limit: u128,
+) -> Option<Vec<u128>> {
+    append_for(rt, log, size, 1, 1)?;
+    append_for(rt, log, size, limit, MOST)
+}
+
+// Appends windows to a new file for so many milliseconds, and prints how long each took.
 fn append(rt: &HostRuntime, path: &str, size: usize, time: u64) -> io::Result<Option<()>> {
     let Some(disk) = new_disk(rt, path)? else {
         return Ok(None);
@@ -106,10 +121,12 @@ fn append(rt: &HostRuntime, path: &str, size: usize, time: u64) -> io::Result<Op
         return Ok(None);
     };
     let limit = (time as u128).saturating_mul(1_000_000);
-    let Some(done) = append_for(rt, &mut log, size, limit, u64::MAX) else {
+    let Some(times) = append_timed(rt, &mut log, size, limit) else {
         return Ok(None);
     };
-    println!(rt; "windows {} nanoseconds {}", done.windows, done.nanoseconds)?;
+    for time in &times {
+        println!(rt; "{time}")?;
+    }
     Ok(Some(()))
 }
 
