@@ -1,0 +1,10 @@
+//! Links, which connect to ports and listen at them, and doors, which accept connections: as traits, in memory and over TCP.
+//! It stands on `bus_io` for connections. The layers above make their connections through the traits, and never learn whether a
+//! peer is one of a network or a list in memory.
+#![tactic(auto)]
+
+mod fault;
+mod link;
+
+pub use fault::OpenFault;
+pub use link::{Accept, Link};
