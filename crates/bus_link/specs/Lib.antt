@@ -1,1 +1,4 @@
 pub mod Links
+pub mod Handed
+pub mod Listed
+pub mod Memory

@@ -3,8 +3,17 @@
 //! peer is one of a network or a list in memory.
 #![tactic(auto)]
 
+mod fail;
 mod fault;
+mod kept;
 mod link;
+mod memory_door;
+mod memory_link;
+mod opening;
+mod returned;
 
+pub use fail::LinkFail;
 pub use fault::OpenFault;
 pub use link::{Accept, Link};
+pub use memory_door::MemoryDoor;
+pub use memory_link::MemoryLink;
