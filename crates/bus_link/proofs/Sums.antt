@@ -22,4 +22,15 @@ pub takes_door : (s t : Linked) (d : Doorway) → t ≡ with_door d s → TakesB
 takes_door s t d e = subst (λ x. TakesBack (faults_of s) (faults_of x) d.faults) (sym e)
     (let more = sum_end (λ d. d.faults) s.shut.all d in takes_back _ _ _ (omega (arith, more)))
 
+-- one more in the middle sum, and one more in the last
+pub takes_middle : {X : Type 0} (f : X → ℕ) (own last : ℕ) (xs ys : List X) (x : X) → ys ≡ xs ++ x ∷ []
+    → TakesBack (own + sum_over f xs + last) (own + sum_over f ys + last) (f x)
+takes_middle f own last xs ys x e = subst (λ zs. TakesBack (own + sum_over f xs + last) (own + sum_over f zs + last) (f x)) (sym e)
+    (let more = sum_end f xs x in takes_back _ _ _ (omega (arith, more)))
+
+pub takes_last : {X : Type 0} (f : X → ℕ) (first : ℕ) (xs ys : List X) (x : X) → ys ≡ xs ++ x ∷ []
+    → TakesBack (first + sum_over f xs) (first + sum_over f ys) (f x)
+takes_last f first xs ys x e = subst (λ zs. TakesBack (first + sum_over f xs) (first + sum_over f zs) (f x)) (sym e)
+    (let more = sum_end f xs x in takes_back _ _ _ (omega (arith, more)))
+
 pub ruleset sums = (takes_wire, takes_door)

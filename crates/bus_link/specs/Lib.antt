@@ -2,3 +2,4 @@ pub mod Links
 pub mod Handed
 pub mod Listed
 pub mod Memory
+pub mod Tcp

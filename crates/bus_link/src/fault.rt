@@ -1,5 +1,5 @@
 use bus_types::{Failed as Fault, NoMemory as OutOfMemory};
-use std::alloc::AllocError;
+use std::alloc::{AllocError, AllocFailed};
 
 /// Why a link did not listen.
 #[derive(Clone, Copy, Debug, PartialEq, Eq)]
@@ -39,6 +39,17 @@ impl From<AllocError> for OpenFault {
     ghost from_gives = { λ _ e. e ≡ faults.NoMemory };
 
     fn from(_: AllocError) -> Self {
+        OpenFault::NoMemory
+    }
+}
+
+impl<T: Drop> From<AllocFailed<T>> for OpenFault {
+    ghost use Rattle.std.specs.Prelude.{◌≡◌};
+    ghost use Rattle.bus_link.specs.declared.fault.OpenFault.TheVariants as faults;
+
+    ghost from_gives = { λ _ e. e ≡ faults.NoMemory };
+
+    fn from(_: AllocFailed<T>) -> Self {
         OpenFault::NoMemory
     }
 }

@@ -11,9 +11,11 @@ mod memory_door;
 mod memory_link;
 mod opening;
 mod returned;
+mod tcp;
 
 pub use fail::LinkFail;
 pub use fault::OpenFault;
 pub use link::{Accept, Link};
 pub use memory_door::MemoryDoor;
 pub use memory_link::MemoryLink;
+pub use tcp::{TcpDoor, TcpLink};
