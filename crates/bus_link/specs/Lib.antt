@@ -1,0 +1,5 @@
+pub mod Links
+pub mod Handed
+pub mod Listed
+pub mod Memory
+pub mod Tcp
