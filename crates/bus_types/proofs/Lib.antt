@@ -10,3 +10,6 @@ pub mod Numbers
 pub mod CursorTexts
 pub mod Cuts
 pub mod Feeding
+pub mod Tests
+pub mod Combinators
+pub mod ListForms

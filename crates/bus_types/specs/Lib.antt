@@ -11,3 +11,5 @@ pub mod Relay
 pub mod Text
 pub mod Rows
 pub mod Latest
+pub mod Form
+pub mod Lists

@@ -1,7 +1,9 @@
-ghost use Rattle.std.specs.Prelude.{List, ℕ, ◌≡◌, ◌↔◌, ◌<◌, ◌≤◌, ◌++◌, ◌∷◌, [], length, take, true, codes};
+ghost use Rattle.std.specs.Prelude.{List, ℕ, ◌≡◌, ◌↔◌, ◌<◌, ◌≤◌, ◌++◌, ◌∷◌, [], length, take, true, codes, decimal, Some, None};
 ghost use Rattle.bus_types.specs.declared.limits.TheConstants.{MAX_SCN, MAX_PAYLOAD, MAX_CHANGES, MAX_WINDOW};
 ghost use Rattle.bus_types.specs.Change.{Test};
 ghost use Rattle.bus_types.specs.Fnv.{fnv1a_of};
+ghost use Rattle.bus_types.specs.Text.{number_of};
+ghost use Rattle.bus_types.specs.Lists.{listed_by, list_text};
 ghost use Rattle.bus_types.specs.Window.{Span};
 ghost use Rattle.bus_types.specs.Timeline.{Follows, IsTimeline, end_of, windows_between};
 ghost use Rattle.bus_types.specs.Table.{table, HoldsLastPuts};
@@ -20,6 +22,14 @@ pub fn hashes_of_short_texts()
     ensures empty { fnv1a_of [] ≡ 0xcbf29ce484222325 }
     ensures letter { fnv1a_of (codes "a") ≡ 0xaf63dc4c8601ec8c }
     ensures word { fnv1a_of (codes "foobar") ≡ 0x85944171f73967e8 }
+{}
+
+/// A law of texts of several values: a list is spelled and read as these rows say, by computation from the definitions alone.
+pub fn texts_of_short_lists()
+    ensures list { list_text 44 decimal (1 ∷ 20 ∷ []) ≡ codes "1,20" }
+    ensures listed { listed_by 44 (number_of 20) (codes "1,20") ≡ Some (1 ∷ 20 ∷ []) }
+    ensures one_is_none { listed_by 44 (number_of 20) (codes "1,21") ≡ None }
+    ensures empty { listed_by 44 (number_of 20) (codes "1,") ≡ None }
 {}
 
 /// A law of the table at an SCN: it is in strictly rising order of name, and a row is in it exactly where the

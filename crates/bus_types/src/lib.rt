@@ -26,7 +26,7 @@ pub use fault::{Failed, NoMemory};
 pub use fnv::fnv1a;
 pub use laws::{
     a_relay_stands_for_its_timeline, a_reply_is_the_longest_run, hashes_of_short_texts,
-    table_holds_last_puts, the_floor_is_the_least_place_with_room,
+    table_holds_last_puts, texts_of_short_lists, the_floor_is_the_least_place_with_room,
     the_floor_is_where_windows_were_evicted, the_limits_of_windows,
 };
 pub use limits::{MAX_CHANGES, MAX_PAYLOAD, MAX_SCN, MAX_WINDOW};

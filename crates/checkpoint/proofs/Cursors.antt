@@ -6,8 +6,8 @@ use Rattle.bus_types.specs.declared.row.Cursor.{Cursor}
 use Rattle.bus_types.specs.declared.row.Cursor.TheVariants.{Start, After}
 use Rattle.bus_types.specs.Text.{is_digit, IsCursor, cursor_text}
 use Rattle.bus_types.proofs.Numbers.{all_digits-decimal}
-use Rattle.text_forms.specs.Objects.{is_plain, IsPlain}
-use Rattle.text_forms.proofs.Tests.{list_all-weaker, list_all-both}
+use Rattle.json_forms.specs.Objects.{is_plain, IsPlain}
+use Rattle.bus_types.proofs.Tests.{list_all-weaker, list_all-both}
 
 plain_digit : (b : ℕ) → is_digit b ≡ true → is_plain b ≡ true
 plain_digit b h = grind (arith, nat_tests)

@@ -3,8 +3,8 @@ use Rattle.std.proofs.Common.{◌≡◌, ℕ, false, List, Some, refl, arith}
 use Rattle.bus_types.proofs.CursorTexts.{cursor_again}
 use Rattle.serde_json.specs.Data.{Data, no_members}
 use Rattle.serde_json.specs.Written.{has_float, compact_text}
-use Rattle.text_forms.specs.Objects.{AreMembers, members_data, object_text, put_all, ObjectForm}
-use Rattle.text_forms.proofs.ObjectTexts.{in_pieces-is, written_value, one_value}
+use Rattle.json_forms.specs.Objects.{AreMembers, members_data, object_text, put_all, ObjectForm}
+use Rattle.json_forms.proofs.ObjectTexts.{in_pieces-is, written_value, one_value}
 use Rattle.checkpoint.specs.declared.mark.Mark.{Mark}
 use Rattle.checkpoint.specs.declared.mark.Mark.TheVariants.{Online, Delta, Snapshot, Scanned, Catchup}
 use Rattle.checkpoint.specs.Mark.{IsMark, mark_text}

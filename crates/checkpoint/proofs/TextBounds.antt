@@ -5,7 +5,7 @@ use Rattle.bus_types.specs.declared.change.Key.TheVariants.{Long}
 use Rattle.bus_types.specs.declared.row.Cursor.{Cursor}
 use Rattle.bus_types.specs.declared.row.Cursor.TheVariants.{Start, After}
 use Rattle.bus_types.specs.Text.{IsCursor, cursor_text}
-use Rattle.text_forms.proofs.ObjectTexts.{members_size, length-object}
+use Rattle.json_forms.proofs.ObjectTexts.{members_size, length-object}
 use Rattle.checkpoint.specs.declared.mark.Mark.{Mark}
 use Rattle.checkpoint.specs.declared.mark.Mark.TheVariants.{Online, Delta, Snapshot, Scanned, Catchup}
 use Rattle.checkpoint.specs.Mark.{IsMark, mark_text, MayBeMark}

@@ -3,7 +3,7 @@ use Rattle.std.specs.Prelude.{if◌then◌else◌, List, [], ◌∷◌, ℕ, cod
 use Rattle.bus_types.specs.declared.row.Cursor.{Cursor}
 use Rattle.bus_types.specs.Text.{◌>>=◌, cursor_text, cursor_of}
 use Rattle.serde_json.specs.Data.{Data}
-use Rattle.text_forms.specs.Objects.{Number, Text, Fixed, Member, object_data, text_at, number_at}
+use Rattle.json_forms.specs.Objects.{Number, Text, Fixed, Member, object_data, text_at, number_at}
 use Rattle.checkpoint.specs.declared.mark.Mark.{Mark}
 use Rattle.checkpoint.specs.declared.mark.Mark.TheVariants.{Online, Delta, Snapshot, Scanned, Catchup}
 

@@ -3,7 +3,7 @@ ghost use Rattle.serde_json.specs.Read.{read};
 ghost use Rattle.serde_json.specs.View.{view};
 ghost use Rattle.checkpoint.specs.declared.mark.Mark.{Mark};
 ghost use Rattle.checkpoint.specs.Mark.{IsMark, MayBeMark, mark_text};
-ghost use Rattle.text_forms.specs.Objects.{text_at, number_at};
+ghost use Rattle.json_forms.specs.Objects.{text_at, number_at};
 ghost use Rattle.checkpoint.specs.Members.{cursor_at, online_in, delta_in, snapshot_in, scanned_in, catchup_in, mode_in, mark_in};
 
 use crate::mark::{Mark, MarkFault};

@@ -7,7 +7,7 @@ use Rattle.std.proofs.lemmas.Bool.Decides.{nat_tests}
 use Rattle.std.proofs.lemmas.Option.{cond_some}
 use Rattle.bus_types.specs.Text.{◌>>=◌, number_of}
 use Rattle.bus_types.proofs.Options.{bind_some, map_some, chosen}
-use Rattle.text_forms.proofs.ListForms.{map_none}
+use Rattle.bus_types.proofs.ListForms.{map_none}
 use Rattle.partition_filter.specs.declared.rule.Keys.{Keys}
 use Rattle.partition_filter.specs.declared.rule.Rule.{Rule}
 use Rattle.partition_filter.specs.Rising.{is_above, rises}

@@ -15,9 +15,9 @@ use Rattle.partition_filter.specs.Selection.{Selection}
 use Rattle.partition_filter.specs.Selection.Selection.{All, Rules}
 use Rattle.partition_filter.specs.Rising.{is_above, rises}
 use Rattle.partition_filter.specs.Spelling.{rule_text, filter_text, most_rules, longest_text, IsRule, AreRules, IsFilter}
-use Rattle.text_forms.specs.Form.{Form}
-use Rattle.text_forms.proofs.Combinators.{where_form, form_lacks}
-use Rattle.text_forms.proofs.ListForms.{split_again, split_taken, all_texts}
+use Rattle.bus_types.specs.Form.{Form}
+use Rattle.bus_types.proofs.Combinators.{where_form, form_lacks}
+use Rattle.bus_types.proofs.ListForms.{split_again, split_taken, all_texts}
 use Rattle.partition_filter.proofs.RuleTexts.{is_rule_byte, rule_form}
 
 -- ---- rules

@@ -3,10 +3,10 @@ use Rattle.std.proofs.Common.{◌≡◌, ℕ, ◌+◌, ◌^◌, ◌<◌, Bool, �
 use Rattle.std.specs.List.{slice_split}
 use Rattle.std.proofs.lemmas.Bool.{and_parts, and_from, leb-true, le-leb}
 use Rattle.bus_types.specs.Text.{is_digit, number_of}
-use Rattle.text_forms.specs.Form.{Form}
-use Rattle.text_forms.specs.Lists.{each_of}
-use Rattle.text_forms.proofs.Combinators.{where_form, same_form, below_form, read_form}
-use Rattle.text_forms.proofs.ListForms.{list_form}
+use Rattle.bus_types.specs.Form.{Form}
+use Rattle.bus_types.specs.Lists.{each_of}
+use Rattle.bus_types.proofs.Combinators.{where_form, same_form, below_form, read_form}
+use Rattle.bus_types.proofs.ListForms.{list_form}
 use Rattle.partition_filter.specs.Grammar.{numbers_of, listed_of}
 use Rattle.partition_filter.specs.Rising.{rises}
 use Rattle.partition_filter.specs.Spelling.{listed_text, most_numbers, IsListed}

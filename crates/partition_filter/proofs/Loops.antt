@@ -4,7 +4,7 @@ use Rattle.std.specs.List.{slice_split, join_with_byte}
 use Rattle.std.proofs.lemmas.List.{drop_more, drop_all, append-nil, length-append}
 use Rattle.std.proofs.lemmas.List.Splits.{join_with_byte-slice_split, length-slice_split}
 use Rattle.bus_types.specs.Text.{◌>>=◌, number_of}
-use Rattle.text_forms.proofs.ListForms.{with_front, with_front-cons}
+use Rattle.bus_types.proofs.ListForms.{with_front, with_front-cons}
 use Rattle.partition_filter.specs.declared.fault.FilterFault.{FilterFault}
 use Rattle.partition_filter.specs.declared.fault.FilterFault.TheVariants.{BadFilter, NoMemory}
 use Rattle.partition_filter.specs.declared.rule.Rule.{Rule}

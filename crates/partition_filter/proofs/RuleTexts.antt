@@ -9,9 +9,9 @@ use Rattle.std.proofs.lemmas.Option.{cond_some}
 use Rattle.bus_types.specs.Text.{is_digit, number_of, cut_at, max_u64}
 use Rattle.bus_types.proofs.Cuts.{Lacks, Lacks-from_test, cut_taken, cut_again, cut_none}
 use Rattle.bus_types.proofs.Options.{bind_some}
-use Rattle.text_forms.specs.Form.{Form}
-use Rattle.text_forms.proofs.Tests.{list_all-weaker, list_all-both}
-use Rattle.text_forms.proofs.Combinators.{number_form, where_form, same_form, below_form, form_lacks, both, parted_again, parted_bytes}
+use Rattle.bus_types.specs.Form.{Form}
+use Rattle.bus_types.proofs.Tests.{list_all-weaker, list_all-both}
+use Rattle.bus_types.proofs.Combinators.{number_form, where_form, same_form, below_form, form_lacks, both, parted_again, parted_bytes}
 use Rattle.partition_filter.specs.declared.rule.Keys.{Keys}
 use Rattle.partition_filter.specs.declared.rule.Keys.TheVariants.{Every, Remainder, Quotient}
 use Rattle.partition_filter.specs.declared.rule.Rule.{Rule}

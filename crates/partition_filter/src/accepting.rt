@@ -9,8 +9,35 @@ ghost use Rattle.partition_filter.specs.Spelling.{IsKeys, IsRule};
 use crate::rule::{Keys, Rule};
 use bus_types::Key;
 
+/// As many rules or numbers as are looked at one after another: for so few that is faster than a search by halves.
+const FEW: usize = 8;
+
 /// Whether one of the rules accepts the row: at most one is of its source.
 pub(crate) fn accepts(rules: &[Rule], source: u16, key: &Key) -> bool
+    requires rising { rises None (map (λ r. r.source) rules.now) ≡ true }
+    requires each { AllByRecursion IsRule rules.now }
+    ensures { result ≡ list_any (λ r. r.source == source && accepts_key r.keys key.now) rules.now }
+{
+    if rules.len() <= FEW {
+        accepts_in_order(rules, source, key)
+    } else {
+        accepts_by_halves(rules, source, key)
+    }
+}
+
+/// As [`accepts`], by a look at each rule.
+fn accepts_in_order(rules: &[Rule], source: u16, key: &Key) -> bool
+    requires each { AllByRecursion IsRule rules.now }
+    ensures { result ≡ list_any (λ r. r.source == source && accepts_key r.keys key.now) rules.now }
+{
+    let Some((rule, others)) = rules.split_first() else {
+        return false;
+    };
+    rule.source == source && accepts_key(&rule.keys, key) || accepts_in_order(others, source, key)
+}
+
+/// As [`accepts`], by a search for the rule of the source.
+fn accepts_by_halves(rules: &[Rule], source: u16, key: &Key) -> bool
     requires rising { rises None (map (λ r. r.source) rules.now) ≡ true }
     requires each { AllByRecursion IsRule rules.now }
     ensures { result ≡ list_any (λ r. r.source == source && accepts_key r.keys key.now) rules.now }
@@ -46,6 +73,17 @@ fn accepts_key(keys: &Keys, key: &Key) -> bool
 }
 
 fn contains(numbers: &[u64], number: u64) -> bool
+    requires { rises None numbers.now ≡ true }
+    ensures { result ≡ list_any (λ b. b == number) numbers.now }
+{
+    if numbers.len() <= FEW {
+        numbers.contains(&number)
+    } else {
+        contains_by_halves(numbers, number)
+    }
+}
+
+fn contains_by_halves(numbers: &[u64], number: u64) -> bool
     requires { rises None numbers.now ≡ true }
     ensures { result ≡ list_any (λ b. b == number) numbers.now }
 {

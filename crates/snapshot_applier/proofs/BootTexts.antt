@@ -2,8 +2,8 @@
 use Rattle.std.proofs.Common.{◌≡◌, ℕ, false, List, refl, arith}
 use Rattle.serde_json.specs.Data.{Data}
 use Rattle.serde_json.specs.Written.{has_float, compact_text}
-use Rattle.text_forms.specs.Objects.{ObjectForm}
-use Rattle.text_forms.proofs.ObjectTexts.{in_pieces-is, written_value, one_value}
+use Rattle.json_forms.specs.Objects.{ObjectForm}
+use Rattle.json_forms.proofs.ObjectTexts.{in_pieces-is, written_value, one_value}
 use Rattle.snapshot_applier.specs.declared.boot.BootMark.{BootMark}
 use Rattle.snapshot_applier.specs.BootMark.{IsBootMark, boot_mark_text}
 use Rattle.snapshot_applier.specs.Members.{boot_members, boot_data, boot_in}

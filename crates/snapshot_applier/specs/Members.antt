@@ -2,7 +2,7 @@
 use Rattle.std.specs.Prelude.{List, [], ◌∷◌, codes, Option, Some}
 use Rattle.bus_types.specs.Text.{◌>>=◌}
 use Rattle.serde_json.specs.Data.{Data}
-use Rattle.text_forms.specs.Objects.{Number, Member, object_data, number_at}
+use Rattle.json_forms.specs.Objects.{Number, Member, object_data, number_at}
 use Rattle.snapshot_applier.specs.declared.boot.BootMark.{BootMark}
 
 -- its members, in the order of their names

@@ -3,7 +3,7 @@ ghost use Rattle.serde_json.specs.Read.{read};
 ghost use Rattle.serde_json.specs.View.{view};
 ghost use Rattle.snapshot_applier.specs.declared.boot.BootMark.{BootMark};
 ghost use Rattle.snapshot_applier.specs.BootMark.{IsBootMark, boot_mark_text};
-ghost use Rattle.text_forms.specs.Objects.{number_at};
+ghost use Rattle.json_forms.specs.Objects.{number_at};
 ghost use Rattle.snapshot_applier.specs.Members.{boot_data, boot_in};
 
 use crate::boot::BootMark;

@@ -17,11 +17,11 @@ use Rattle.bus_types.specs.Change.{IsKey, IsChange, AreChanges, payload_size, ke
 use Rattle.bus_types.specs.Text.{number_of, is_digit, max_u64, cut_at}
 use Rattle.bus_types.proofs.Options.{bind_some, map_some}
 use Rattle.bus_types.proofs.Cuts.{cut_taken, cut_again, cut_none}
-use Rattle.text_forms.specs.Form.{Form}
-use Rattle.text_forms.specs.Lists.{each_of}
-use Rattle.text_forms.proofs.Tests.{list_all-both, each_weaker, each_both}
-use Rattle.text_forms.proofs.Combinators.{number_form, below_form, wider_form, form_lacks, both}
-use Rattle.text_forms.proofs.ListForms.{all_texts, each_taken, each_again}
+use Rattle.bus_types.specs.Form.{Form}
+use Rattle.bus_types.specs.Lists.{each_of}
+use Rattle.bus_types.proofs.Tests.{list_all-both, each_weaker, each_both}
+use Rattle.bus_types.proofs.Combinators.{number_form, below_form, wider_form, form_lacks, both}
+use Rattle.bus_types.proofs.ListForms.{all_texts, each_taken, each_again}
 use Rattle.trace_script.specs.Words.{is_word_byte, is_lower_hex, key_of, put_or_delete, change_of, changes_of}
 use Rattle.trace_script.specs.Spelling.{put_text, change_text, AreBytesOf}
 use Rattle.trace_script.proofs.HexText.{payload_form}

@@ -6,10 +6,10 @@ use Rattle.std.specs.List.{list_all, join_with_byte}
 use Rattle.std.proofs.lemmas.Bool.Decides.{nat_tests}
 use Rattle.std.proofs.lemmas.Fmt.{decimal_nonempty}
 use Rattle.std.proofs.lemmas.List.{length-append}
-use Rattle.text_forms.specs.Form.{Form}
-use Rattle.text_forms.proofs.Tests.{list_all-join}
-use Rattle.text_forms.proofs.Combinators.{wider_form}
-use Rattle.text_forms.proofs.ListForms.{all_texts}
+use Rattle.bus_types.specs.Form.{Form}
+use Rattle.bus_types.proofs.Tests.{list_all-join}
+use Rattle.bus_types.proofs.Combinators.{wider_form}
+use Rattle.bus_types.proofs.ListForms.{all_texts}
 use Rattle.partition_filter.specs.Selection.{Selection}
 use Rattle.partition_filter.specs.Selection.Selection.{All, Rules}
 use Rattle.partition_filter.specs.Spelling.{keys_text, rule_text, filter_text, IsRule, IsFilter}

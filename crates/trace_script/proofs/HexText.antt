@@ -9,7 +9,7 @@ use Rattle.hex.specs.declared.error.FromHexError.{FromHexError}
 use Rattle.hex.specs.Hex.{IsBytes, decode_of, decode_pairs, digit_or_error, encode_with, encode_lower, hex_digit_value, lower_digits, pair_value, value_at, ◌>>=◌}
 use Rattle.hex.proofs.HexLemmas.{decode_of-encode_lower, decode_of-even, decode_of-ok}
 use Rattle.bus_types.specs.declared.limits.TheConstants.{MAX_PAYLOAD}
-use Rattle.text_forms.specs.Form.{Form}
+use Rattle.bus_types.specs.Form.{Form}
 use Rattle.trace_script.specs.Words.{is_lower_hex, payload_of}
 use Rattle.bus_types.proofs.Options.{bind_some, chosen}
 

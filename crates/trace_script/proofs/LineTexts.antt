@@ -10,8 +10,8 @@ use Rattle.std.proofs.lemmas.Slice.Eq.{bytes_eq-Decides}
 use Rattle.bus_types.specs.declared.limits.TheConstants.{MAX_SCN}
 use Rattle.bus_types.specs.Text.{is_digit, number_of, max_u64}
 use Rattle.bus_types.proofs.Options.{bind_some, chosen}
-use Rattle.text_forms.specs.Form.{Form}
-use Rattle.text_forms.proofs.Combinators.{number_form, by_name, made, both}
+use Rattle.bus_types.specs.Form.{Form}
+use Rattle.bus_types.proofs.Combinators.{number_form, by_name, made, both}
 use Rattle.partition_filter.specs.Selection.{Selection}
 use Rattle.trace_script.specs.declared.fault.LineFault.{LineFault}
 use Rattle.trace_script.specs.declared.fault.LineFault.TheVariants.{BadLine, NoMemory}

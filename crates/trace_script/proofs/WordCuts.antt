@@ -2,7 +2,7 @@
 use Rattle.std.proofs.Common.{◌≡◌, ℕ, ◌<◌, ◌≤◌, Bool, true, false, if◌then◌else◌, ◌==◌, List, [], ◌∷◌, length, codes, bytes_eq, Option, Some, None, refl, sym, ap, subst, ◌∙◌, arith}
 use Rattle.std.specs.List.{list_any}
 use Rattle.bus_types.specs.Text.{cut_at, number_of, max_u64}
-use Rattle.text_forms.proofs.ListForms.{split_cut, split_uncut}
+use Rattle.bus_types.proofs.ListForms.{split_cut, split_uncut}
 use Rattle.trace_script.specs.Words.{IsNoCommit, words_of, changes_of}
 use Rattle.trace_script.specs.Lines.{is_blank, commit_by, relay_of, consumer_of, commit_of, gen_of, feed_of, poll_of, show_of, sum_of, crash_of, stop_of, stream_of, log_of, apply_of, trim_of, restart_of, words_line, line_of}
 use Rattle.trace_script.specs.declared.line.Line.{Line}

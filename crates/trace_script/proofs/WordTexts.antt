@@ -9,10 +9,10 @@ use Rattle.std.proofs.lemmas.Option.{cond_some}
 use Rattle.bus_types.specs.Text.{is_digit}
 use Rattle.bus_types.proofs.Cuts.{Lacks, Lacks-from_test}
 use Rattle.bus_types.proofs.Numbers.{all_digits-decimal}
-use Rattle.text_forms.specs.Form.{Form}
-use Rattle.text_forms.proofs.Tests.{list_all-weaker, list_all-join, each_weaker}
-use Rattle.text_forms.proofs.Combinators.{number_form, where_form, same_form, by_name}
-use Rattle.text_forms.proofs.ListForms.{split_again}
+use Rattle.bus_types.specs.Form.{Form}
+use Rattle.bus_types.proofs.Tests.{list_all-weaker, list_all-join, each_weaker}
+use Rattle.bus_types.proofs.Combinators.{number_form, where_form, same_form, by_name}
+use Rattle.bus_types.proofs.ListForms.{split_again}
 use Rattle.trace_script.specs.Words.{words_of, number_in, name_of, is_word_byte, is_line_byte, is_name_byte, is_name_text}
 use Rattle.trace_script.specs.Lines.{when_of}
 use Rattle.trace_script.specs.Spelling.{IsName, when_text}

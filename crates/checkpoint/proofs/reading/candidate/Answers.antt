@@ -2,7 +2,7 @@ use Rattle.std.proofs.Common.{◌≡◌, Err, ap, sym, ◌∙◌}
 use Rattle.std.proofs.lemmas.Result.{err_from_is_err_and}
 use Rattle.serde_json.specs.View.{view}
 use Rattle.checkpoint.specs.declared.mark.MarkFault.TheVariants.{BadMark}
-use Rattle.text_forms.proofs.ObjectTexts.{only_value, refused_value}
+use Rattle.json_forms.proofs.ObjectTexts.{only_value, refused_value}
 use Rattle.checkpoint.proofs.ReadBack.{mark_form}
 use Rattle.checkpoint.proofs.reading.candidate.Goals as goal
 

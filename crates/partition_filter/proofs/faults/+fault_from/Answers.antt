@@ -2,7 +2,7 @@ use Rattle.std.proofs.Common.{◌==◌, sym, ap, ◌∙◌}
 use Rattle.std.specs.List.{slice_split}
 use Rattle.partition_filter.specs.Grammar.{rules_of}
 use Rattle.partition_filter.specs.Faults.{fault_of}
-use Rattle.text_forms.proofs.ListForms.{split_cut, split_uncut}
+use Rattle.bus_types.proofs.ListForms.{split_cut, split_uncut}
 use Rattle.partition_filter.proofs.FaultTexts.{fault_here, fault_behind, fault_last}
 use Rattle.partition_filter.proofs.faults.+fault_from.Goals as goal
 

@@ -2,7 +2,7 @@ use Rattle.std.proofs.Common.{◌==◌, sym, ap, ◌∙◌}
 use Rattle.std.specs.Prelude.{is_some}
 use Rattle.std.specs.List.{slice_split}
 use Rattle.partition_filter.specs.Faults.{listed_behind}
-use Rattle.text_forms.proofs.ListForms.{split_cut, split_uncut}
+use Rattle.bus_types.proofs.ListForms.{split_cut, split_uncut}
 use Rattle.partition_filter.proofs.FaultTexts.{listed_bad, listed_more, listed_last}
 use Rattle.partition_filter.proofs.faults.+is_listed_behind.Goals as goal
 

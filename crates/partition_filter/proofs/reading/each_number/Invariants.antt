@@ -1,6 +1,6 @@
 use Rattle.std.proofs.Common.{◌≡◌, drop, map}
 use Rattle.partition_filter.specs.Grammar.{numbers_of}
-use Rattle.text_forms.proofs.ListForms.{with_front}
+use Rattle.bus_types.proofs.ListForms.{with_front}
 use Rattle.partition_filter.proofs.reading.each_number.Given as goal
 
 abbrev pub invariant-loop-text : goal.invariant-loop-text

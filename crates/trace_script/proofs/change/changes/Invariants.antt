@@ -1,6 +1,6 @@
 use Rattle.std.proofs.Common.{◌≡◌, length}
 use Rattle.trace_script.specs.Words.{words_of, changes_of}
-use Rattle.text_forms.proofs.ListForms.{with_front}
+use Rattle.bus_types.proofs.ListForms.{with_front}
 use Rattle.trace_script.proofs.change.changes.Given as goal
 
 abbrev pub invariant-words : goal.invariant-words

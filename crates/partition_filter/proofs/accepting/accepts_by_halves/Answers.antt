@@ -3,7 +3,7 @@ use Rattle.std.proofs.lemmas.Bool.{ltb-true}
 use Rattle.partition_filter.specs.declared.rule.Keys.TheVariants.{Every}
 use Rattle.partition_filter.specs.Spelling.{IsRule}
 use Rattle.partition_filter.proofs.Searches.{each_at}
-use Rattle.partition_filter.proofs.accepting.accepts.Goals as goal
+use Rattle.partition_filter.proofs.accepting.accepts_by_halves.Goals as goal
 
 pub accepts_key-requires : goal.accepts_key-requires
 accepts_key-requires c =

@@ -1,7 +1,7 @@
 use Rattle.std.proofs.Common.{◌∙◌}
 use Rattle.std.proofs.lemmas.List.Sorted.{searched}
 use Rattle.partition_filter.proofs.Searches.{numbers_in_order, found_is}
-use Rattle.partition_filter.proofs.accepting.contains.Goals as goal
+use Rattle.partition_filter.proofs.accepting.contains_by_halves.Goals as goal
 
 pub returns : goal.returns
 returns c =

@@ -9,10 +9,10 @@ use Rattle.std.proofs.lemmas.List.Sums.{fails_before_first}
 use Rattle.bus_types.specs.Text.{◌>>=◌, cut_at}
 use Rattle.bus_types.proofs.Cuts.{Lacks}
 use Rattle.bus_types.proofs.Options.{bind_some, map_some, chosen}
-use Rattle.text_forms.specs.Form.{Form}
-use Rattle.text_forms.specs.Lists.{each_of, listed_by, list_text}
-use Rattle.text_forms.proofs.Tests.{list_all-join}
-use Rattle.text_forms.proofs.Combinators.{wider_form, form_lacks}
+use Rattle.bus_types.specs.Form.{Form}
+use Rattle.bus_types.specs.Lists.{each_of, listed_by, list_text}
+use Rattle.bus_types.proofs.Tests.{list_all-join}
+use Rattle.bus_types.proofs.Combinators.{wider_form, form_lacks}
 
 -- ---- texts
 

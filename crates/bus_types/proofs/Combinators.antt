@@ -9,8 +9,8 @@ use Rattle.bus_types.specs.Text.{◌>>=◌, cut_at, is_digit, number_of}
 use Rattle.bus_types.proofs.Cuts.{Lacks, Lacks-from_test, cut_again}
 use Rattle.bus_types.proofs.Numbers.{all_digits-decimal, number_taken, number_again}
 use Rattle.bus_types.proofs.Options.{bind_some, chosen}
-use Rattle.text_forms.specs.Form.{Form}
-use Rattle.text_forms.proofs.Tests.{list_all-weaker, list_all-both}
+use Rattle.bus_types.specs.Form.{Form}
+use Rattle.bus_types.proofs.Tests.{list_all-weaker, list_all-both}
 
 -- ---- one value
 

@@ -20,7 +20,7 @@ use Rattle.serde_json.specs.Written as written
 use Rattle.serde_json.specs.Written.{outline, members_outline, has_float, members_have_float, compact_text, comma_if}
 use Rattle.serde_json.proofs.Numbers.{number_of-decimal}
 use Rattle.serde_json.proofs.Texts.{print-outline}
-use Rattle.text_forms.specs.Objects.{Part, Number, Text, Fixed, Member, is_plain, IsPlain, IsPart, AreMembers, part_data, members_data, object_data, quote, part_text, members_text, object_text, put_all, ObjectForm}
+use Rattle.json_forms.specs.Objects.{Part, Number, Text, Fixed, Member, is_plain, IsPlain, IsPart, AreMembers, part_data, members_data, object_data, quote, part_text, members_text, object_text, put_all, ObjectForm}
 
 -- ---- plain texts
 

@@ -1,4 +1,0 @@
-pub mod Tests
-pub mod Combinators
-pub mod ListForms
-pub mod ObjectTexts
