@@ -35,7 +35,8 @@ use Rattle.client_switch.proofs.Coming.{can_come}
 use Rattle.client_switch.proofs.GoodTurn.{good_turn}
 use Rattle.client_switch.proofs.Turns.{stays, lawful}
 use Rattle.trace_script.specs.Printed.{reply_line}
-use Rattle.history_core.specs.Script.{Follower, stage_of, reply_text, stopped_line}
+use Rattle.history_core.specs.Script.{Follower, reply_text, stopped_line}
+use Rattle.consumer_lines.specs.Shown.{stage_of}
 use Rattle.history_core.specs.Steps.{committed, after_reply}
 use Rattle.bus_stores.specs.MemoryLog.{MemoryWindows}
 use Rattle.bootstrap_core.specs.Boot.{BootParts}

@@ -50,7 +50,8 @@ use Rattle.checkpoint.specs.Mark.{IsMark, floor_of}
 use Rattle.client_switch.specs.Moves.{Wish, question, turn, replayed}
 use Rattle.client_switch.specs.Moves.Wish.{NoWish, StartWish, FreshWish}
 use Rattle.trace_script.specs.Printed.{reply_line}
-use Rattle.history_core.specs.Script.{stage_of, reply_size, reply_text}
+use Rattle.history_core.specs.Script.{reply_size, reply_text}
+use Rattle.consumer_lines.specs.Shown.{stage_of}
 use Rattle.history_core.specs.Steps.{replied}
 use Rattle.client_switch.specs.Client.{IsAskOf, asks}
 use Rattle.history_core.specs.Bus.{MemberState, IsHeaded, IsMember}

@@ -9,7 +9,8 @@ use Rattle.bus_types.specs.Change.{key_text}
 use Rattle.bus_types.specs.declared.row.Row.{Row}
 use Rattle.bus_types.specs.Rows.{pair_of}
 use Rattle.bus_types.specs.Fnv.{fnv1a_of}
-use Rattle.history_core.specs.Script.{row_line, rows_size, hash_text, sum_line, sum_text}
+use Rattle.history_core.specs.Script.{rows_size, hash_text, sum_line, sum_text}
+use Rattle.consumer_lines.specs.Shown.{row_line}
 
 -- a row's line has two digits for each byte
 pub row_long : (row : RowName × List ℕ) → 2 * length row.1 ≤ length (row_line row)

@@ -3,7 +3,7 @@ use Rattle.std.specs.Prelude.{ℕ, ◌+◌, Bool, false, List, [], ◌∷◌, �
 use Rattle.std.specs.Int.{w64, to_be_bytes}
 use Rattle.hex.specs.Hex.{encode_lower}
 use Rattle.bus_types.specs.declared.change.RowName.{RowName}
-use Rattle.bus_types.specs.Change.{key_text, changes_size}
+use Rattle.bus_types.specs.Change.{changes_size}
 use Rattle.bus_types.specs.Window.{Span}
 use Rattle.bus_types.specs.Timeline.{end_of, total_size}
 use Rattle.bus_types.specs.Table.{RowList}
@@ -22,9 +22,8 @@ use Rattle.event_codec.specs.Questions.{Reply}
 use Rattle.client_switch.specs.Moves.{Wish}
 use Rattle.event_codec.specs.Questions.Reply.{Windows, Rows, Changes, Only}
 use Rattle.bus_wire.specs.True.{Boot}
-use Rattle.trace_script.specs.declared.printing.Stage.{Stage}
-use Rattle.trace_script.specs.declared.printing.Stage.TheVariants as stages
 use Rattle.trace_script.specs.Printed.{line_with, boot_line, reply_line}
+use Rattle.consumer_lines.specs.Shown.{stage_of, row_line, rows_text}
 
 -- a consumer: its name, its filter, the mark that its keeper holds, what it wants beside it, the stop that its next commit
 -- meets, the texts of the marks that its commits set, in order, and how often its rows were shown
@@ -69,14 +68,6 @@ floor s = floor_of s.room s.windows s.end
 abbrev pub numbers_line : Boot → List ℕ
 numbers_line b = boot_line b.base b.applied b.high
 
--- the stage of a mark, as far as the line of a reply tells it
-abbrev pub stage_of : Mark → Stage
-stage_of (Online scn) = stages.Online scn
-stage_of (Delta since target cursor) = stages.Delta target
-stage_of (Snapshot since begins top cursor) = stages.Snapshot
-stage_of (Scanned since begins top) = stages.Scanned begins
-stage_of (Catchup since begins target at) = stages.Catchup target
-
 -- the bytes that a reply takes
 abbrev pub reply_size : Reply → ℕ
 reply_size (Windows ws) = total_size ws
@@ -103,13 +94,6 @@ stream_line (SomeWindows ws) = sent_line (length ws) (total_size ws) (end_of ws)
 abbrev pub stopped_line : Stop → List ℕ
 stopped_line Before = codes "stopped before\n"
 stopped_line After = codes "stopped after\n"
-
-abbrev pub row_line : RowName × List ℕ → List ℕ
-row_line row = decimal row.0.source ++ codes "/" ++ key_text row.0.key ++ codes "=" ++ encode_lower row.1 ++ codes "\n"
-
-abbrev pub rows_text : List ℕ → ℕ → RowList → List ℕ
-rows_text name scn rows = codes "show " ++ name ++ codes " online " ++ decimal scn ++ codes " " ++ decimal (length rows) ++ codes "\n"
-    ++ flat_map row_line rows
 
 -- what is shown of a consumer: online, its SCN and the view there; else its mode alone
 abbrev pub shown : List Span → Follower → Mark → List ℕ

@@ -9,11 +9,12 @@ ghost use Rattle.history_core.specs.Steps.{new_follower};
 ghost use Rattle.history_core.specs.Bus.{follower, IsMember};
 ghost use Rattle.history_core.specs.Acting.{WasRead, IsReopened, Becomes, Shows, Sums};
 
-use crate::{sum, text};
+use crate::sum;
 use bus_stores::{MemoryKeeper, StoreFault, all_rows};
 use bus_types::{NoMemory, Rows};
 use checkpoint::Mark;
 use client_switch::{Client, ClientOpen};
+use consumer_lines::{mode_shown, rows_shown};
 use partition_filter::Filter;
 use std::alloc::Global;
 use std::marker::Model;
@@ -117,10 +118,10 @@ impl Member {
     {
         match *self.client.mark() {
             Mark::Online { scn } => self.show_rows(alloc, scn),
-            Mark::Delta { .. } => text::mode(alloc, self.name.bytes(), b" delta\n"),
-            Mark::Snapshot { .. } => text::mode(alloc, self.name.bytes(), b" snapshot\n"),
-            Mark::Scanned { .. } => text::mode(alloc, self.name.bytes(), b" scanned\n"),
-            Mark::Catchup { .. } => text::mode(alloc, self.name.bytes(), b" catchup\n"),
+            Mark::Delta { .. } => mode_shown(alloc, self.name.bytes(), b" delta\n"),
+            Mark::Snapshot { .. } => mode_shown(alloc, self.name.bytes(), b" snapshot\n"),
+            Mark::Scanned { .. } => mode_shown(alloc, self.name.bytes(), b" scanned\n"),
+            Mark::Catchup { .. } => mode_shown(alloc, self.name.bytes(), b" catchup\n"),
         }
     }
 
@@ -158,7 +159,7 @@ impl Member {
     {
         let rows = rows_of(alloc, &mut self.keeper)?;
         self.shows = self.shows.saturating_add(1);
-        text::show(alloc, self.name.bytes(), scn, rows.items())
+        rows_shown(alloc, self.name.bytes(), scn, rows.items())
     }
 
     /// Its keeper.

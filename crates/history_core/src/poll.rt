@@ -9,7 +9,8 @@ ghost use Rattle.checkpoint.specs.declared.mark.Mark.{Mark};
 ghost use Rattle.bus_stores.specs.Memory.{last_mark};
 ghost use Rattle.client_switch.specs.Client.{IsAskOf, IsStored, asks};
 ghost use Rattle.bus_wire.specs.True.{Boot};
-ghost use Rattle.history_core.specs.Script.{stage_of, stopped_line};
+ghost use Rattle.history_core.specs.Script.{stopped_line};
+ghost use Rattle.consumer_lines.specs.Shown.{stage_of};
 ghost use Rattle.history_core.specs.Bus.{boot_numbers, IsBooted, IsMember};
 ghost use Rattle.history_core.specs.Booting.{BootedAt};
 ghost use Rattle.history_core.specs.Acting.{IsReopened, Polls};
@@ -21,13 +22,12 @@ use crate::text;
 use bus_stores::Stop;
 use bus_types::NoMemory;
 use bus_wire::Ask;
-use checkpoint::Mark;
 use client_switch::{AskRefusal, TakeFault};
+use consumer_lines::stage_of;
 use dispatcher::NoCallbacks;
 use partition_filter::Filter;
 use relay_core::{Buffer, relay_answer};
 use std::alloc::Global;
-use trace_script::Stage;
 
 // Room for the bytes of a reply of a few windows, so that a short one grows but once.
 const REPLY_ROOM: usize = 1_024;
@@ -62,19 +62,6 @@ fn answer<B: Buffer>(
     match ask {
         Ask::Stream { scn, filter, max } => streamed(alloc, relay, *scn, filter, *max),
         _ => boot::answer(alloc, boot, ask),
-    }
-}
-
-// The stage of a mark, as far as the line of a reply tells it.
-fn stage_of(mark: &Mark) -> Stage
-    ensures { result ≡ stage_of mark.now }
-{
-    match *mark {
-        Mark::Online { scn } => Stage::Online { scn },
-        Mark::Delta { target, .. } => Stage::Delta { target },
-        Mark::Snapshot { .. } => Stage::Snapshot,
-        Mark::Scanned { start, .. } => Stage::Scanned { start },
-        Mark::Catchup { target, .. } => Stage::Catchup { target },
     }
 }
 

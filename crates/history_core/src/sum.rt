@@ -1,10 +1,11 @@
 ghost use Rattle.std.specs.Prelude.{◌≡◌, ◌++◌, ◌+◌, ◌*◌, ◌≤◌, length, map, flat_map, codes, IfOk, string_bytes};
 ghost use Rattle.bus_types.specs.Rows.{pair_of};
 ghost use Rattle.bus_types.specs.Fnv.{fnv1a_of};
-ghost use Rattle.history_core.specs.Script.{row_line, rows_size, hash_text, sum_numbers, sum_line, sum_text};
+ghost use Rattle.history_core.specs.Script.{rows_size, hash_text, sum_numbers, sum_line, sum_text};
+ghost use Rattle.consumer_lines.specs.Shown.{row_line};
 
-use crate::text::put_row;
 use bus_types::{NoMemory, Row, fnv1a};
+use consumer_lines::put_row;
 use std::alloc::Global;
 
 /// The summary of a consumer that isn't online.

@@ -1,14 +1,13 @@
-ghost use Rattle.std.specs.Prelude.{◌≡◌, ◌++◌, map, codes, decimal, IfOk, OnOk, string_bytes};
+ghost use Rattle.std.specs.Prelude.{◌≡◌, IfOk, string_bytes};
 ghost use Rattle.bus_types.specs.Relay as relays;
-ghost use Rattle.bus_types.specs.Rows.{pair_of};
 ghost use Rattle.event_codec.specs.Reply.{IsServed};
 ghost use Rattle.trace_script.specs.Printed.{line_with, reply_line};
-ghost use Rattle.history_core.specs.Script.{numbers_line, sent_line, stream_line, stopped_line, row_line, rows_text};
+ghost use Rattle.history_core.specs.Script.{numbers_line, sent_line, stream_line, stopped_line};
 ghost use Rattle.history_core.specs.Bus.{boot_numbers};
 
 use crate::boot::MemoryBoot;
 use bus_stores::Stop;
-use bus_types::{Key, NoMemory, Row};
+use bus_types::NoMemory;
 use event_codec::{Served, Shape};
 use std::alloc::Global;
 use trace_script::{Stage, boot_line, reply_line};
@@ -68,48 +67,4 @@ pub(crate) fn stopped(alloc: Global, stop: Stop) -> Result<Vec<u8>, NoMemory>
         Stop::Before => Ok(Vec::from_slice(alloc, b"stopped before\n")?),
         Stop::After => Ok(Vec::from_slice(alloc, b"stopped after\n")?),
     }
-}
-
-/// What is shown of a consumer that isn't online.
-pub(crate) fn mode(alloc: Global, name: &[u8], mode: &[u8]) -> Result<Vec<u8>, NoMemory>
-    ensures { IfOk result (λ text. text.items ≡ codes "show " ++ name.now ++ mode.now) }
-{
-    let mut text = Vec::from_slice(alloc, b"show ")?;
-    text.extend_from_slice(name)?;
-    text.extend_from_slice(mode)?;
-    Ok(text)
-}
-
-/// What is shown of a consumer that is online: its SCN and its rows.
-pub(crate) fn show(alloc: Global, name: &[u8], scn: u64, rows: &[Row]) -> Result<Vec<u8>, NoMemory>
-    ensures { IfOk result (λ text. text.items ≡ rows_text name.now scn (map pair_of rows.now)) }
-{
-    let mut text = heading(alloc, name, scn, rows.len())?;
-    for row in rows {
-        put_row(alloc, &mut text, row)?;
-    }
-    Ok(text)
-}
-
-// The line before the rows.
-fn heading(alloc: Global, name: &[u8], scn: u64, count: usize) -> Result<Vec<u8>, NoMemory>
-    ensures { IfOk result (λ text. text.items ≡ codes "show " ++ name.now ++ codes " online " ++ decimal scn ++ codes " " ++ decimal count ++ codes "\n") }
-{
-    let mut text = Vec::from_slice(alloc, b"show ")?;
-    text.extend_from_slice(name)?;
-    let rest = format!(in alloc; " online {scn} {count}\n")?;
-    text.extend_from_slice(rest.as_bytes())?;
-    Ok(text)
-}
-
-/// Appends the line of a row.
-pub(crate) fn put_row(alloc: Global, text: &mut Vec<u8>, row: &Row) -> Result<(), NoMemory>
-    ensures { OnOk result (text.new.items ≡ text.old.items ++ row_line (pair_of row.now)) }
-{
-    let Key::Long(key) = row.key;
-    let source = row.source;
-    let digits = hex::encode(alloc, row.payload.bytes())?;
-    let line = format!(in alloc; "{source}/{key}={digits}\n")?;
-    text.extend_from_slice(line.as_bytes())?;
-    Ok(())
 }

@@ -1,6 +1,7 @@
 use Rattle.std.proofs.Common.{◌≡◌, ◌+◌, ◌*◌, ◌≤◌, ◌++◌, length, map, drop, flat_map}
 use Rattle.bus_types.specs.Rows.{pair_of}
-use Rattle.history_core.specs.Script.{row_line, rows_size}
+use Rattle.history_core.specs.Script.{rows_size}
+use Rattle.consumer_lines.specs.Shown.{row_line}
 use Rattle.history_core.proofs.sum.lines.Given as goal
 
 abbrev pub invariant-loop-row : goal.invariant-loop-row

@@ -2,7 +2,7 @@ use Rattle.std.proofs.Common.{◌≡◌, length, rules, sym, ap, subst, ◌∙�
 use Rattle.std.specs.Prelude.{IfOk}
 use Rattle.trace_script.specs.declared.printing.Stage.{Stage}
 use Rattle.trace_script.specs.Printed.{reply_line}
-use Rattle.history_core.specs.Script.{stage_of}
+use Rattle.consumer_lines.specs.Shown.{stage_of}
 use Rattle.history_core.specs.Bus.{MemberState}
 use Rattle.history_core.specs.Polling.{Comes}
 use Rattle.history_core.proofs.Polling.{no_fault, stopped_stored, took_done, stopped_done}
