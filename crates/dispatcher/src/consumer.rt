@@ -1,4 +1,4 @@
-ghost use Rattle.std.specs.Prelude.{◌≡◌, ◌≤◌, ℕ, List, [], ◌∷◌, Option, is_err};
+ghost use Rattle.std.specs.Prelude.{◌≡◌, ◌≤◌, ℕ, List, [], ◌∷◌, Option, None, false, is_err};
 ghost use Rattle.bus_types.specs.Causes.{HasCause};
 ghost use Rattle.event_codec.specs.View.{event_of};
 ghost use Rattle.dispatcher.specs.Callbacks.{Call, taken, with_calls};
@@ -26,6 +26,14 @@ pub trait Consumer {
 
     // How often it has refused. It has no greatest value.
     ghost refusals: { Self → ℕ };
+
+    /// Whether it listens to replies, as each does that doesn't say otherwise. One that doesn't tells nothing of its
+    /// calls, and isn't called for what a reply holds.
+    fn listens(&self) -> bool
+        ensures { result ≡ false → calls self.now ≡ None }
+    {
+        true
+    }
 
     /// A window begins, or a run of rows or changes: its SCN.
     fn on_start(&mut self, scn: u64) -> Result<(), Refusal>
@@ -59,7 +67,7 @@ pub trait Consumer {
         ensures later { refusals self.old ≤ refusals self.new };
 }
 
-/// A consumer's program that never refuses, and tells nothing of its calls.
+/// A consumer's program that doesn't listen, never refuses, and tells nothing of its calls.
 #[derive(Clone, Copy, Debug, PartialEq, Eq)]
 pub struct NoCallbacks;
 
@@ -69,6 +77,10 @@ impl Consumer for NoCallbacks {
     ghost calls = { λ _. None };
 
     ghost refusals = { λ _. 0 };
+
+    fn listens(&self) -> bool {
+        false
+    }
 
     fn on_start(&mut self, _scn: u64) -> Result<(), Refusal> {
         Ok(())

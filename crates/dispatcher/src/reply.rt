@@ -34,8 +34,9 @@ fn tell<C: Consumer>(consumer: &mut C, reply: &ReplyView<'_>) -> Result<(), Refu
 
 /// Tells a consumer of a reply, in the order of its items: of each window its start, its events and its end; of a run of
 /// rows or changes the same once, also where it has no item; of the start of a snapshot that all is to be cleared; of
-/// any other answer nothing. `Refused` comes where the consumer refused a callback: no callback of the reply was called
-/// after it, and the consumer was told to go back to `floor`.
+/// any other answer nothing. A consumer that doesn't listen isn't called, and no item is read. `Refused` comes where the
+/// consumer refused a callback: no callback of the reply was called after it, and the consumer was told to go back to
+/// `floor`.
 pub fn dispatch_reply<C: Consumer>(
     consumer: &mut C,
     reply: &ReplyView<'_>,
@@ -44,6 +45,9 @@ pub fn dispatch_reply<C: Consumer>(
     ensures told { Dispatched result (reply_calls reply.now) floor (C.calls consumer.old) (C.calls consumer.new) }
     ensures cause { HasCause (C.refusals consumer.old) (C.refusals consumer.new) result }
 {
+    if !consumer.listens() {
+        return Ok(());
+    }
     if let Err(refused) = tell(consumer, reply) {
         consumer.on_rollback(floor);
         return Err(refused);
