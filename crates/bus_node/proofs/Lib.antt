@@ -1,0 +1,3 @@
+pub mod Visiting
+pub mod Answering
+pub mod Pairs

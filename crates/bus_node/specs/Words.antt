@@ -1,0 +1,125 @@
+-- The words that start a node.
+use Rattle.std.specs.Prelude.{ℕ, ◌*◌, ◌≤◌, ◌==◌, if◌then◌else◌, bytes_eq, List, [], ◌∷◌, length, codes, Option, Some, None}
+use Rattle.bus_types.specs.Text.{◌>>=◌}
+use Rattle.partition_filter.specs.Selection.{Selection}
+use Rattle.trace_script.specs.Words.{number_in, name_of, selection_of}
+use Rattle.bus_node.specs.declared.words.RelayWords.{RelayWords}
+use Rattle.bus_node.specs.declared.words.BootstrapWords.{BootstrapWords}
+use Rattle.bus_node.specs.declared.words.ConsumeWords.{ConsumeWords}
+use Rattle.bus_node.specs.declared.words.Polling.{Polling}
+use Rattle.bus_node.specs.declared.words.NodeWords.{NodeWords}
+use Rattle.bus_node.specs.declared.words.NodeWords.TheVariants.{Relay, Bootstrap, Consume}
+
+-- an option: its name and its value
+abbrev pub Pair : Type 0
+Pair = List ℕ × List ℕ
+
+-- words two by two; a last one alone is no option
+abbrev pub in_pairs : List (List ℕ) → List Pair
+in_pairs [] = []
+in_pairs (name ∷ []) = []
+in_pairs (name ∷ value ∷ words) = (name, value) ∷ in_pairs words
+
+-- the value of an option, where it stands
+abbrev pub value_of : List ℕ → List Pair → Option (List ℕ)
+value_of name [] = None
+value_of name (pair ∷ pairs) = if bytes_eq pair.0 name then Some pair.1 else value_of name pairs
+
+-- options that are as many as wanted: where each wanted one stands, it stands once, and no other does
+unfoldable pub options_of : ℕ → List (List ℕ) → Option (List Pair)
+options_of count words = if length words == count * 2 then Some (in_pairs words) else None
+
+-- ---- values
+
+-- the number from one to another that an option says
+unfoldable pub number_at : List ℕ → ℕ → ℕ → List Pair → Option ℕ
+number_at name least most pairs = do
+  text ← value_of name pairs
+  number_in least most text
+
+abbrev pub port_at : List ℕ → List Pair → Option ℕ
+port_at name pairs = number_at name 1 65535 pairs
+
+abbrev pub count_at : List ℕ → List Pair → Option ℕ
+count_at name pairs = number_at name 1 1000000 pairs
+
+-- the name of a consumer that an option says
+unfoldable pub name_at : List ℕ → List Pair → Option (List ℕ)
+name_at name pairs = do
+  text ← value_of name pairs
+  name_of text
+
+-- the filter that an option spells
+unfoldable pub filter_at : List ℕ → List Pair → Option Selection
+filter_at name pairs = do
+  text ← value_of name pairs
+  selection_of text
+
+-- ---- nodes
+
+unfoldable pub relay_words : List (List ℕ) → Option RelayWords
+relay_words words = do
+  pairs ← options_of 4 words
+  port ← port_at (codes "--port") pairs
+  bytes ← number_at (codes "--bytes") 1048576 268435456 pairs
+  windows ← number_at (codes "--windows") 1 65536 pairs
+  connections ← count_at (codes "--connections") pairs
+  Some (record { port = port; bytes = bytes; windows = windows; connections = connections })
+
+unfoldable pub bootstrap_words : List (List ℕ) → Option BootstrapWords
+bootstrap_words words = do
+  pairs ← options_of 4 words
+  port ← port_at (codes "--port") pairs
+  relay ← port_at (codes "--relay") pairs
+  rounds ← count_at (codes "--rounds") pairs
+  connections ← count_at (codes "--connections") pairs
+  Some (record { port = port; relay = relay; rounds = rounds; connections = connections })
+
+-- what the words of a consumer say but its name and its filter
+unfoldable pub polling_at : List Pair → Option Polling
+polling_at pairs = do
+  relay ← port_at (codes "--relay") pairs
+  bootstrap ← port_at (codes "--bootstrap") pairs
+  polls ← count_at (codes "--polls") pairs
+  max ← number_at (codes "--max") 1 16777216 pairs
+  Some (record { relay = relay; bootstrap = bootstrap; polls = polls; max = max })
+
+unfoldable pub consume_words : List (List ℕ) → Option ConsumeWords
+consume_words words = do
+  pairs ← options_of 6 words
+  name ← name_at (codes "--name") pairs
+  polling ← polling_at pairs
+  filter ← filter_at (codes "--filter") pairs
+  Some (record { name = name; filter = filter; relay = polling.relay; bootstrap = polling.bootstrap; polls = polling.polls; max = polling.max })
+
+unfoldable pub relay_node : List (List ℕ) → Option NodeWords
+relay_node words = do
+  found ← relay_words words
+  Some (Relay found)
+
+unfoldable pub bootstrap_node : List (List ℕ) → Option NodeWords
+bootstrap_node words = do
+  found ← bootstrap_words words
+  Some (Bootstrap found)
+
+unfoldable pub consume_node : List (List ℕ) → Option NodeWords
+consume_node words = do
+  found ← consume_words words
+  Some (Consume found)
+
+-- the node that words start: its word, and then its options
+unfoldable pub node_words : List (List ℕ) → Option NodeWords
+node_words [] = None
+node_words (first ∷ words) =
+    if bytes_eq first (codes "relay") then relay_node words
+    else if bytes_eq first (codes "bootstrap") then bootstrap_node words
+    else if bytes_eq first (codes "consume") then consume_node words
+    else None
+
+-- ---- what is within the ranges
+
+abbrev pub IsPort : ℕ → Type 0
+IsPort n = (1 ≤ n) × (n ≤ 65535)
+
+abbrev pub IsCount : ℕ → Type 0
+IsCount n = (1 ≤ n) × (n ≤ 1000000)
