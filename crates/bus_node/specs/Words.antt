@@ -116,10 +116,43 @@ node_words (first ∷ words) =
     else if bytes_eq first (codes "consume") then consume_node words
     else None
 
--- ---- what is within the ranges
+-- ---- ranges
 
 abbrev pub IsPort : ℕ → Type 0
 IsPort n = (1 ≤ n) × (n ≤ 65535)
 
 abbrev pub IsCount : ℕ → Type 0
 IsCount n = (1 ≤ n) × (n ≤ 1000000)
+
+-- the numbers of a relay's words are in their ranges
+pub record IsRelay (w : RelayWords) : Type 0 where
+  pub port : IsPort w.port
+  pub bytes : (1048576 ≤ w.bytes) × (w.bytes ≤ 268435456)
+  pub windows : (1 ≤ w.windows) × (w.windows ≤ 65536)
+  pub connections : IsCount w.connections
+
+-- those of a bootstrap's are
+pub record IsBootstrap (w : BootstrapWords) : Type 0 where
+  pub port : IsPort w.port
+  pub relay : IsPort w.relay
+  pub rounds : IsCount w.rounds
+  pub connections : IsCount w.connections
+
+-- those of a consumer's are, but its name and its filter
+pub record IsPolling (p : Polling) : Type 0 where
+  pub relay : IsPort p.relay
+  pub bootstrap : IsPort p.bootstrap
+  pub polls : IsCount p.polls
+  pub max : (1 ≤ p.max) × (p.max ≤ 16777216)
+
+pub record IsConsume (w : ConsumeWords) : Type 0 where
+  pub relay : IsPort w.relay
+  pub bootstrap : IsPort w.bootstrap
+  pub polls : IsCount w.polls
+  pub max : (1 ≤ w.max) × (w.max ≤ 16777216)
+
+-- those of a node's are
+abbrev pub IsInRange : NodeWords → Type 0
+IsInRange (Relay w) = IsRelay w
+IsInRange (Bootstrap w) = IsBootstrap w
+IsInRange (Consume w) = IsConsume w

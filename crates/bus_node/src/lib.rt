@@ -6,11 +6,13 @@
 
 mod door;
 mod exchanging;
+mod laws;
 mod status;
 mod words;
 
 pub use bus_http::ServeEnd;
 pub use door::{DoorEnd, Serves, serve_door};
 pub use exchanging::{ExchangeFault, exchange};
+pub use laws::worked_words;
 pub use status::NodeStatus;
 pub use words::{BootstrapWords, ConsumeWords, NodeWords, RelayWords, WordsFault, read_words};

@@ -1,6 +1,6 @@
 ghost use Rattle.std.specs.Prelude.{◌≡◌, ◌<◌, ◌≤◌, ◌∷◌, Some, None, map, option_map, length, IfOk, IfSome, IfNone, IsErrOf, string_bytes};
 ghost use Rattle.trace_script.specs.Words.{number_in, name_of, selection_of};
-ghost use Rattle.bus_node.specs.Words.{in_pairs, value_of, options_of, number_at, name_at, filter_at, relay_words, bootstrap_words, polling_at, consume_words, relay_node, bootstrap_node, consume_node, node_words};
+ghost use Rattle.bus_node.specs.Words.{in_pairs, value_of, options_of, number_at, name_at, filter_at, relay_words, bootstrap_words, polling_at, consume_words, relay_node, bootstrap_node, consume_node, node_words, IsPort, IsRelay, IsBootstrap, IsPolling, IsConsume, IsInRange};
 
 use bus_types::{NoMemory, read_number};
 use partition_filter::{Filter, FilterFault};
@@ -160,7 +160,8 @@ fn number_at(name: &[u8], least: u64, most: u64, words: &[String]) -> Option<u64
 
 // The port that an option says.
 fn port_at(name: &[u8], words: &[String]) -> Option<u16>
-    ensures { result ≡ number_at name.now 1 65535 (in_pairs (map string_bytes words.now)) }
+    ensures value { result ≡ number_at name.now 1 65535 (in_pairs (map string_bytes words.now)) }
+    ensures within { IfSome result IsPort }
 {
     let port = number_at(name, 1, MAX_PORT, words)?;
     Some(port as u16)
@@ -168,7 +169,8 @@ fn port_at(name: &[u8], words: &[String]) -> Option<u16>
 
 // The number from 1 to another that an option says.
 fn count_at(name: &[u8], most: u32, words: &[String]) -> Option<u32>
-    ensures { result ≡ number_at name.now 1 most (in_pairs (map string_bytes words.now)) }
+    ensures value { result ≡ number_at name.now 1 most (in_pairs (map string_bytes words.now)) }
+    ensures within { IfSome result (λ count. (1 ≤ count) × (count ≤ most)) }
 {
     let count = number_at(name, 1, u64::from(most), words)?;
     Some(count as u32)
@@ -207,7 +209,8 @@ fn filter_at(alloc: Global, name: &[u8], words: &[String]) -> Result<Option<Filt
 
 #[tactic(auto, unfolding(crate::specs::Words::relay_words))]
 fn relay_words(words: &[String]) -> Option<RelayWords>
-    ensures { result ≡ relay_words (map string_bytes words.now) }
+    ensures value { result ≡ relay_words (map string_bytes words.now) }
+    ensures within { IfSome result IsRelay }
 {
     let options = options_of(4, words)?;
     let port = port_at(b"--port", options)?;
@@ -224,7 +227,8 @@ fn relay_words(words: &[String]) -> Option<RelayWords>
 
 #[tactic(auto, unfolding(crate::specs::Words::bootstrap_words))]
 fn bootstrap_words(words: &[String]) -> Option<BootstrapWords>
-    ensures { result ≡ bootstrap_words (map string_bytes words.now) }
+    ensures value { result ≡ bootstrap_words (map string_bytes words.now) }
+    ensures within { IfSome result IsBootstrap }
 {
     let options = options_of(4, words)?;
     let port = port_at(b"--port", options)?;
@@ -242,7 +246,8 @@ fn bootstrap_words(words: &[String]) -> Option<BootstrapWords>
 // The words of a consumer but its name and filter.
 #[tactic(auto, unfolding(crate::specs::Words::polling_at))]
 fn polling_at(words: &[String]) -> Option<Polling>
-    ensures { result ≡ polling_at (in_pairs (map string_bytes words.now)) }
+    ensures value { result ≡ polling_at (in_pairs (map string_bytes words.now)) }
+    ensures within { IfSome result IsPolling }
 {
     let relay = port_at(b"--relay", words)?;
     let bootstrap = port_at(b"--bootstrap", words)?;
@@ -258,7 +263,8 @@ fn polling_at(words: &[String]) -> Option<Polling>
 
 #[tactic(auto, unfolding(crate::specs::Words::consume_words))]
 fn consume_words(alloc: Global, words: &[String]) -> Result<Option<ConsumeWords>, NoMemory>
-    ensures { IfOk result (λ found. found ≡ consume_words (map string_bytes words.now)) }
+    ensures value { IfOk result (λ found. found ≡ consume_words (map string_bytes words.now)) }
+    ensures within { IfOk result (λ found. IfSome found IsConsume) }
 {
     let Some(options) = options_of(6, words) else {
         return Ok(None);
@@ -284,7 +290,8 @@ fn consume_words(alloc: Global, words: &[String]) -> Result<Option<ConsumeWords>
 
 #[tactic(auto, unfolding(crate::specs::Words::relay_node))]
 fn relay_node(words: &[String]) -> Option<NodeWords>
-    ensures { result ≡ relay_node (map string_bytes words.now) }
+    ensures value { result ≡ relay_node (map string_bytes words.now) }
+    ensures within { IfSome result IsInRange }
 {
     let found = relay_words(words)?;
     Some(NodeWords::Relay(found))
@@ -292,7 +299,8 @@ fn relay_node(words: &[String]) -> Option<NodeWords>
 
 #[tactic(auto, unfolding(crate::specs::Words::bootstrap_node))]
 fn bootstrap_node(words: &[String]) -> Option<NodeWords>
-    ensures { result ≡ bootstrap_node (map string_bytes words.now) }
+    ensures value { result ≡ bootstrap_node (map string_bytes words.now) }
+    ensures within { IfSome result IsInRange }
 {
     let found = bootstrap_words(words)?;
     Some(NodeWords::Bootstrap(found))
@@ -300,7 +308,8 @@ fn bootstrap_node(words: &[String]) -> Option<NodeWords>
 
 #[tactic(auto, unfolding(crate::specs::Words::consume_node))]
 fn consume_node(alloc: Global, words: &[String]) -> Result<Option<NodeWords>, NoMemory>
-    ensures { IfOk result (λ found. found ≡ consume_node (map string_bytes words.now)) }
+    ensures value { IfOk result (λ found. found ≡ consume_node (map string_bytes words.now)) }
+    ensures within { IfOk result (λ found. IfSome found IsInRange) }
 {
     let Some(found) = consume_words(alloc, words)? else {
         return Ok(None);
@@ -311,7 +320,8 @@ fn consume_node(alloc: Global, words: &[String]) -> Result<Option<NodeWords>, No
 // The node of its word and the words behind it.
 #[tactic(auto, unfolding(crate::specs::Words::node_words))]
 fn node_of(alloc: Global, first: &str, words: &[String]) -> Result<Option<NodeWords>, NoMemory>
-    ensures { IfOk result (λ found. found ≡ node_words (first.now ∷ map string_bytes words.now)) }
+    ensures value { IfOk result (λ found. found ≡ node_words (first.now ∷ map string_bytes words.now)) }
+    ensures within { IfOk result (λ found. IfSome found IsInRange) }
 {
     if first.as_bytes() == b"relay".as_slice() {
         return Ok(relay_node(words));
@@ -328,7 +338,8 @@ fn node_of(alloc: Global, first: &str, words: &[String]) -> Result<Option<NodeWo
 // The node that words start.
 #[tactic(auto, unfolding(crate::specs::Words::node_words), using(crate::proofs::Pairs::firsts))]
 fn node_words(alloc: Global, words: &[String]) -> Result<Option<NodeWords>, NoMemory>
-    ensures { IfOk result (λ found. found ≡ node_words (map string_bytes words.now)) }
+    ensures value { IfOk result (λ found. found ≡ node_words (map string_bytes words.now)) }
+    ensures within { IfOk result (λ found. IfSome found IsInRange) }
 {
     let [first, rest @ ..] = words else {
         return Ok(None);
@@ -340,6 +351,7 @@ fn node_words(alloc: Global, words: &[String]) -> Result<Option<NodeWords>, NoMe
 /// order, as the two words `--name value`, with each value in its range. `Usage` comes exactly where they aren't of that form.
 pub fn read_words(alloc: Global, words: &[String]) -> Result<NodeWords, WordsFault>
     ensures found { IfOk result (λ w. node_words (map string_bytes words.now) ≡ Some w) }
+    ensures within { IfOk result IsInRange }
     ensures usage { IsErrOf result WordsFault.Usage → node_words (map string_bytes words.now) ≡ None }
 {
     match node_words(alloc, words) {
