@@ -7,8 +7,8 @@ use log_disk::Disk;
 use std::alloc::Global;
 use std::marker::Model;
 
-// The most bytes that a disk is asked for at once.
-const PIECE: usize = 65_536;
+/// The most bytes that a disk is asked for at once.
+pub(crate) const PIECE: usize = 65_536;
 
 /// Why a disk was not read.
 pub(crate) enum ReadFault {
@@ -80,16 +80,18 @@ fn zeros(alloc: Global, count: usize) -> Result<Vec<u8>, NoMemory>
     Ok(vec![in alloc; 0; count]?)
 }
 
-/// Reads bytes of a disk, up to an end, behind those that were read ahead from a place on. It answers how many they are; none
-/// where all up to the end were read.
+/// Reads bytes of a disk, up to an end and at most so many, behind those that were read ahead from a place on. It answers how many
+/// they are; none where all up to the end were read.
 pub(crate) fn read_on<D: Disk>(
     alloc: Global,
     disk: &mut D,
     end: u64,
     place: u64,
+    most: usize,
     ahead: &mut Ahead,
 ) -> Result<usize, ReadFault>
-    requires { place + length ahead.old ≤ end }
+    requires place { place + length ahead.old ≤ end }
+    requires some { 0 < most }
     ensures looks { Looks (D.state disk.old) (D.state disk.new) }
     ensures failed { OnReadFailed result (Rose (D.state disk.old).faults (D.state disk.new).faults) }
     ensures within { IfOk result (λ count. place + length ahead.new ≤ end) }
@@ -98,7 +100,7 @@ pub(crate) fn read_on<D: Disk>(
         (λ bytes. end ≤ length bytes → ReadsOn place end count bytes ahead.old ahead.new)) }
 {
     let next = place + ahead.bytes().len() as u64;
-    let Ok(mut piece) = zeros(alloc, PIECE) else {
+    let Ok(mut piece) = zeros(alloc, most) else {
         return Err(ReadFault::NoMemory);
     };
     let Ok(count) = disk.read(next, &mut piece) else {

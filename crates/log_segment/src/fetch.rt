@@ -9,9 +9,12 @@ ghost use Rattle.log_segment.specs.Lookup.{scn_before, entry_after, Fetches, Fet
 use crate::ahead::{Ahead, ReadFault, read_on};
 use crate::read::{Front, behind_gate};
 use crate::segment::Entry;
-use bus_types::Window;
+use bus_types::{MAX_WINDOW, Window};
 use log_disk::Disk;
 use std::alloc::Global;
+
+// The most bytes of a record: a window's length, and the window.
+const MOST: u64 = 4 + MAX_WINDOW;
 
 // How many windows have an SCN of at most this one.
 fn place_after(index: &[Entry], scn: u64) -> usize
@@ -42,15 +45,32 @@ pub(crate) fn entry_after(floor: u64, index: &[Entry], scn: u64) -> Option<(u64,
     }
 }
 
-// The window whose record stands at a place before an end, where it follows an SCN.
+/// How many bytes of the record of an entry are read at once: all of them, by where the next record stands, or the end.
+pub(crate) fn piece_of(end: u64, index: &[Entry], entry: Entry) -> usize
+    requires { (floor : ℕ) × (high : ℕ) × RisesTo high floor index.now }
+    ensures { 0 < result }
+{
+    let at = place_after(index, entry.scn);
+    let next = if at < index.len() {
+        index[at].place
+    } else {
+        end
+    };
+    let size = next.saturating_sub(entry.place).saturating_sub(1);
+    size.max(1).min(MOST) as usize
+}
+
+// The window whose record stands at a place before an end, where it follows an SCN. So many bytes are read at once.
 fn fetch_at<D: Disk>(
     alloc: Global,
     disk: &mut D,
     end: u64,
     place: u64,
     prev: u64,
+    piece: usize,
 ) -> Result<Option<Window>, ReadFault>
-    requires { place ≤ end }
+    requires place { place ≤ end }
+    requires piece { 0 < piece }
     ensures looks { Looks (D.state disk.old) (D.state disk.new) }
     ensures failed { OnReadFailed result (Rose (D.state disk.old).faults (D.state disk.new).faults) }
     ensures told { IfOk result (λ found. IfSome (D.state disk.old).seen (λ bytes. end ≤ length bytes → FetchesAt end place prev bytes found)) }
@@ -65,7 +85,7 @@ fn fetch_at<D: Disk>(
             Front::Closed | Front::Refused => return Ok(None),
             Front::Short => {}
         }
-        match read_on(alloc, disk, end, place, &mut ahead) {
+        match read_on(alloc, disk, end, place, piece, &mut ahead) {
             Ok(0) => return Ok(None),
             Ok(_) => {}
             Err(fault) => return Err(fault),
@@ -84,14 +104,16 @@ fn with_scn(scn: u64, found: Option<Window>) -> Option<Window>
     }
 }
 
-/// The window of an entry, where its record stands before an end and follows an SCN.
+/// The window of an entry, where its record stands before an end and follows an SCN. So many bytes are read at once.
 pub(crate) fn fetch<D: Disk>(
     alloc: Global,
     disk: &mut D,
     end: u64,
     entry: Entry,
     prev: u64,
+    piece: usize,
 ) -> Result<Option<Window>, ReadFault>
+    requires { 0 < piece }
     ensures looks { Looks (D.state disk.old) (D.state disk.new) }
     ensures failed { OnReadFailed result (Rose (D.state disk.old).faults (D.state disk.new).faults) }
     ensures scn { IfOk result (λ found. IfSome found (λ w. w.scn ≡ entry.scn)) }
@@ -100,7 +122,7 @@ pub(crate) fn fetch<D: Disk>(
     if entry.place > end {
         return Ok(None);
     }
-    match fetch_at(alloc, disk, end, entry.place, prev) {
+    match fetch_at(alloc, disk, end, entry.place, prev, piece) {
         Ok(found) => Ok(with_scn(entry.scn, found)),
         Err(fault) => Err(fault),
     }

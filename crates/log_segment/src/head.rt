@@ -4,7 +4,7 @@ ghost use Rattle.log_disk.specs.Disk.{Only, may_leave};
 ghost use Rattle.log_segment.specs.Looking.{Looks, OnReadFailed};
 ghost use Rattle.log_segment.specs.Heading.{IsNumber, ShowsFloor, ShowsHead, Fills};
 
-use crate::ahead::{Ahead, ReadFault, read_on};
+use crate::ahead::{Ahead, PIECE, ReadFault, read_on};
 use crate::gate::OPEN;
 use bus_types::MAX_SCN;
 use log_disk::Disk;
@@ -94,7 +94,7 @@ pub(crate) fn read_front<D: Disk>(alloc: Global, disk: &mut D, end: u64) -> Resu
 {
     let mut ahead = Ahead::new(alloc);
     while ahead.bytes().len() < FRONT {
-        match read_on(alloc, disk, end, 0, &mut ahead) {
+        match read_on(alloc, disk, end, 0, PIECE, &mut ahead) {
             Ok(0) => return Ok(ahead),
             Ok(_) => {}
             Err(fault) => return Err(fault),

@@ -4,7 +4,7 @@ ghost use Rattle.log_segment.specs.Looking.{Looks};
 ghost use Rattle.log_segment.specs.Reading.{IsShort, IsRecord};
 ghost use Rattle.log_segment.specs.Scanning.{IsScan, Notes, OnScanFailed, Scans, ScansAll, left};
 
-use crate::ahead::{Ahead, ReadFault, read_on};
+use crate::ahead::{Ahead, PIECE, ReadFault, read_on};
 use crate::read::{Front, record_front};
 use crate::segment::{Entry, SegmentFault};
 use bus_types::{NoMemory, Window};
@@ -63,7 +63,7 @@ fn read_more<D: Disk>(
     ensures told { IfSome (D.state disk.old).seen (λ bytes. end ≡ length bytes → Scans result bytes scan.now ahead.old scan.now ahead.new) }
 {
     let place = fault_place(scan.gate, ahead.bytes());
-    match read_on(alloc, disk, end, scan.gate, ahead) {
+    match read_on(alloc, disk, end, scan.gate, PIECE, ahead) {
         Ok(0) => Err(SegmentFault::Bad { place }),
         Ok(_) => Ok(false),
         Err(ReadFault::Failed) => Err(SegmentFault::Failed),

@@ -6,7 +6,7 @@ ghost use Rattle.log_segment.specs.Opening.{Opens, Finds};
 ghost use Rattle.log_segment.specs.Segment.{told, IsSegment, numbers_of, free_numbers, BeginsBehind, Frees, Appends, OnRefused, Formats, with_window};
 
 use crate::ahead::ReadFault;
-use crate::fetch::{entry_after, fetch};
+use crate::fetch::{entry_after, fetch, piece_of};
 use crate::gate::{close_first, cut_lasting, put_behind};
 use crate::opening::read_segment;
 use crate::record::{head_text, record_text};
@@ -261,7 +261,7 @@ impl<D: Disk> Segment<D> {
     }
 
     /// A copy of the oldest window behind an SCN, and `None` exactly where the segment has none. It reads the window's record
-    /// and no other.
+    /// and no other, at once.
     ///
     /// `Failed` comes only where the count of faults rose: the disk failed, or it gave something else in the window's place.
     /// The segment stays as it is, also after a fault.
@@ -271,7 +271,8 @@ impl<D: Disk> Segment<D> {
         let Some((prev, entry)) = entry_after(self.floor, &self.index, scn) else {
             return Ok(None);
         };
-        match fetch(alloc, &mut self.disk, self.used, entry, prev) {
+        let piece = piece_of(self.used, &self.index, entry);
+        match fetch(alloc, &mut self.disk, self.used, entry, prev, piece) {
             Ok(Some(window)) => Ok(Some(window)),
             Ok(None) => {
                 self.lost.raise();

@@ -8,5 +8,5 @@ returns-clause-told g c =
     let within : c.min-count.result ≤ length c.read.new.buf = omega (arith, c.in-Ok-read.ensures.room, c.min-count.ensures) in
     let read = front_of_lent c.min-count.result _ c.read.new.buf _ _ c.deref.ensures.value long within in
     reads_on c.args.place c.args.end c.in-Ok-read.count c.min-count.result c.args.ahead.now c.append.new.self c.read.new.buf
-    c.requires (rw (← c.bytes.ensures) c.min-count.ensures) (omega (arith, c.in-Ok.ensures, c.deref_mut.ensures.len, c.read.auto.buf))
+    c.requires.place (rw (← c.bytes.ensures) c.min-count.ensures) (omega (arith, c.in-Ok.ensures, c.deref_mut.ensures.len, c.read.auto.buf, c.requires.some))
     (c.in-Ok-append.ensures ∙ ap (λ (l : List ℕ). c.args.ahead.now ++ l) read) _ (rw (← c.bytes.ensures) c.in-Ok-read.ensures.given)

@@ -6,7 +6,7 @@ use Rattle.log_segment.proofs.Lookups.{no_part, part_on, told_all, told_there}
 use Rattle.log_segment.proofs.fetch.fetch_at.Goals as goal
 
 pub loop-front-init : goal.loop-front-init
-loop-front-init g c = record { looks = looks_not (g.D.Disk.state c.args.disk.now); within = omega (arith, c.requires, ap length c.new-ahead.ensures); told = no_part _ c.args.end c.args.place c.new-ahead.result c.new-ahead.ensures }
+loop-front-init g c = record { looks = looks_not (g.D.Disk.state c.args.disk.now); within = omega (arith, c.requires.place, ap length c.new-ahead.ensures); told = no_part _ c.args.end c.args.place c.new-ahead.result c.new-ahead.ensures }
 
 pub returns-in-Record-clause-told : goal.returns-in-Record-clause-told
 returns-in-Record-clause-told g c =
