@@ -2,6 +2,9 @@
 //! commit to it and read the windows after an SCN; it is a timeline by its type.
 #![tactic(auto)]
 
+mod past;
+mod queue;
 mod source;
 
+pub use queue::CommitQueue;
 pub use source::{CommitFault, SourceDb};
