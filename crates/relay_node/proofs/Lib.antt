@@ -1,0 +1,4 @@
+pub mod Published
+pub mod Runs
+pub mod Inputs
+pub mod Doorways
