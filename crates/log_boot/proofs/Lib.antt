@@ -1,0 +1,6 @@
+pub mod Lines
+pub mod Marks
+pub mod Surviving
+pub mod Keeping
+pub mod GoingOn
+pub mod Reopened
