@@ -13,6 +13,7 @@ use Rattle.relay_node.specs.Feeding.Ending.{Finished, BadAt, TooLongAt, WrongAt}
 use Rattle.relay_node.specs.Node.{IsFed, EndsAt}
 use Rattle.relay_node.specs.Pieces.{At, Final, final, runs, EndsIn, StopsAt, TakesPart}
 use Rattle.relay_node.specs.Reading.{Reached, ReadsAll, ReadsOn, EndsSo, HaltsAt, Settles}
+use Rattle.relay_node.proofs.Timelines.{fed_stands, fed_tail}
 
 -- ---- reading on
 
@@ -181,4 +182,10 @@ pub finish_fed : (room : Room) (start now : At) (r : Relay) (input left : Option
 finish_fed room start now r None left s h e = tt
 finish_fed room start now r (Some bytes) left s h e =
     let all : final (new_relay room) (fed bytes) ≡ record { relay = r; ending = Finished } = whole_run room start now bytes left s h ∙ e in
-    (ap (λ (f : Final). f.ending) all, sym (ap (λ (f : Final). f.relay) all))
+    let published = sym (ap (λ (f : Final). f.relay) all) in
+    record {
+      finished = ap (λ (f : Final). f.ending) all;
+      published = published;
+      stands = fed_stands room bytes r published;
+      end = fed_tail room bytes r published;
+    }

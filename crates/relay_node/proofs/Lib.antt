@@ -1,4 +1,5 @@
 pub mod Published
+pub mod Timelines
 pub mod Runs
 pub mod Inputs
 pub mod Doorways

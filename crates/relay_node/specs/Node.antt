@@ -1,7 +1,8 @@
 -- What a relay's node has read, written and served, by its status.
 use Rattle.std.specs.Prelude.{◌≡◌, ℕ, ◌<◌, ◌⊎◌, List, length, take, Option, IfSome}
 use Rattle.std.specs.Io.KnownBytes.{Appends, Consumes, IsAtEnd}
-use Rattle.bus_types.specs.Relay.{Relay, Room, new_relay}
+use Rattle.bus_types.specs.Timeline.{end_of}
+use Rattle.bus_types.specs.Relay.{Relay, Room, new_relay, StandsFor}
 use Rattle.trace_script.specs.Input.{longest_input}
 use Rattle.trace_script.specs.Printed.{relay_line}
 use Rattle.bus_link.specs.Links.{Told}
@@ -11,9 +12,17 @@ use Rattle.relay_node.specs.Feeding.{Ending, fed, relay_after}
 use Rattle.relay_node.specs.Feeding.Ending.{Finished}
 use Rattle.relay_node.specs.Serving.{ServesAll, ServesFew}
 
--- where the input is told: all its lines were taken, and this is the relay that published their windows
+-- all lines of an input were taken, and this is the relay that published their windows: it stands for the timeline of these, up to
+-- the last one
+pub record IsFedBy (room : Room) (bytes : List ℕ) (r : Relay) : Type 0 where
+  pub finished : (fed bytes).ending ≡ Finished
+  pub published : r ≡ relay_after (new_relay room) (fed bytes).windows
+  pub stands : StandsFor (fed bytes).windows r
+  pub end : r.tail ≡ end_of (fed bytes).windows
+
+-- likewise, where the input is told
 abbrev pub IsFed : Room → Option (List ℕ) → Relay → Type 0
-IsFed room input r = IfSome input (λ bytes. ((fed bytes).ending ≡ Finished) × (r ≡ relay_after (new_relay room) (fed bytes).windows))
+IsFed room input r = IfSome input (λ bytes. IsFedBy room bytes r)
 
 -- an input was read to its end, or more of it than an input may have
 abbrev pub IsReadOn : Option (List ℕ) → Option (List ℕ) → Type 0

@@ -4,10 +4,12 @@
 #![tactic(auto)]
 
 mod feed;
+mod laws;
 mod line;
 mod reading;
 mod relay;
 mod serving;
 
 pub use bus_node::{NodeStatus, RelayWords};
+pub use laws::worked_inputs;
 pub use relay::run_relay;
