@@ -1,5 +1,5 @@
 -- How a run ends.
-use Rattle.std.proofs.Common.{◌≡◌, ℕ, ◌+◌, ◌≤◌, inl, inr, false, List, [], ◌∷◌, ◌++◌, Option, Some, None, Result, Ok, Err, refl, sym, ap, subst, ◌∙◌, arith, length, take, append-nil}
+use Rattle.std.proofs.Common.{◌≡◌, ℕ, ◌+◌, ◌≤◌, inl, inr, false, List, [], ◌∷◌, ◌++◌, Option, Result, Ok, Err, refl, sym, ap, subst, ◌∙◌, arith, length, take, append-nil}
 use Rattle.std.specs.Prelude.{OnOk, OnErr, IfErr}
 use Rattle.std.specs.Io.KnownBytes.{Appends}
 use Rattle.std.proofs.KnownBytes.{Appends-trans}
@@ -12,7 +12,6 @@ use Rattle.partition_filter.specs.Selection.{Selection, test_of}
 use Rattle.checkpoint.specs.declared.mark.Mark.{Mark}
 use Rattle.client_switch.specs.declared.fault.ClientOpen.{ClientOpen}
 use Rattle.client_switch.specs.declared.fault.ClientOpen.TheVariants as opens
-use Rattle.client_switch.specs.Moves.{Wish}
 use Rattle.client_switch.specs.Moves.Wish.{NoWish}
 use Rattle.client_switch.specs.Client.{Held, Keeps}
 use Rattle.bus_node.specs.declared.words.ConsumeWords.{ConsumeWords}
@@ -20,8 +19,8 @@ use Rattle.bus_node.specs.declared.status.NodeStatus.{NodeStatus}
 use Rattle.bus_node.specs.declared.status.NodeStatus.TheVariants as statuses
 use Rattle.consume_node.specs.declared.stop.Stop.{Stop}
 use Rattle.consume_node.specs.declared.stop.Stop.TheVariants.{LinkFault, BadAnswer, BadReply, StoreFault as KeeperFault, BadMark, WriteFault, NoMemory}
-use Rattle.consume_node.specs.Polls.{Poll, line_of, lines_of}
-use Rattle.consume_node.specs.Runs.{opened, Shows, Unopened, HasNoMark, Ran, IsDone, Stopped, Unshown, Broken, Ended}
+use Rattle.consume_node.specs.Polls.{lines_of}
+use Rattle.consume_node.specs.Runs.{opened, Shows, HasNoMark, Ran, Stopped, Unshown, Broken, Ended}
 use Rattle.consume_node.specs.Failing.{open_stop, store_stop, stop_status, end_status, Came, Reached, Halted, Cuts, Fails}
 use Rattle.consume_node.proofs.Holding.{good_stored, good_same, same_itself}
 use Rattle.consume_node.proofs.Reaching.{came_more, lines_more}
@@ -70,16 +69,16 @@ module _ {P : Type 0} (given left written : P → Option (List ℕ)) (words : Co
         → count + 1 ≤ words.polls → Reaches count c k told1 out1 → Last c k told1 k' told' → out' ≡ out1 → Stopped given left written words Last before k' told told' out out'
     unfolding ran
     stopped Last count c k told1 out1 k' told' out' few reached last is =
-      let counted = reached.came.counted in
-      record {
-      client = c;
-      keeper = k;
-      between = told1;
-      ran = ran count c k told1 (omega (arith, few)) reached.came;
-      fewer = omega (arith, counted, few);
-      wrote = subst (λ (o : Option (List ℕ)). Appends out o (lines_of mark reached.came.polls)) (sym is) reached.wrote;
-      last = last;
-    }
+        let counted = reached.came.counted in
+        record {
+          client = c;
+          keeper = k;
+          between = told1;
+          ran = ran count c k told1 (omega (arith, few)) reached.came;
+          fewer = omega (arith, counted, few);
+          wrote = subst (λ (o : Option (List ℕ)). Appends out o (lines_of mark reached.came.polls)) (sym is) reached.wrote;
+          last = last;
+        }
 
     -- a line was written in part
     cut : (count : ℕ) (c : Held) (k : KeeperState) (told1 : Option (Told P)) (out1 : Option (List ℕ)) (k' : KeeperState) (told' : Option (Told P)) (out' : Option (List ℕ)) → count + 1 ≤ words.polls → Reaches count c k told1 out1

@@ -1,10 +1,10 @@
 -- One poll.
-use Rattle.std.proofs.Common.{◌≡◌, ℕ, ◌≤◌, inl, inr, false, List, Option, Some, None, Result, Ok, Err, String, string_bytes, refl, sym, ap, subst, ◌∙◌, arith, length, take}
-use Rattle.std.specs.Prelude.{option_map, IfSome, OnOk, OnErr, IfErr, IsErrOf}
+use Rattle.std.proofs.Common.{◌≡◌, ℕ, inl, inr, List, Option, None, Result, Ok, Err, String, refl, sym, subst, take}
+use Rattle.std.specs.Prelude.{OnOk, OnErr, IfErr}
 use Rattle.std.specs.Global.{Global}
 use Rattle.std.specs.Io.KnownBytes.{Appends}
 use Rattle.bus_link.specs.Links.{Told}
-use Rattle.bus_stores.specs.Keeper.{KeeperState, SameStore}
+use Rattle.bus_stores.specs.Keeper.{KeeperState}
 use Rattle.bus_wire.specs.declared.ask.Ask.{Ask}
 use Rattle.bus_wire.specs.declared.ask.Ask.TheVariants.{Stream, Start, Scan, Target, Catchup, Delta}
 use Rattle.partition_filter.specs.Selection.{test_of}
@@ -16,7 +16,7 @@ use Rattle.bus_node.specs.Exchange.{Exchanged, HandedBack, IsAnswered, IsMisansw
 use Rattle.consume_node.specs.declared.stop.Stop.{Stop}
 use Rattle.consume_node.specs.declared.stop.Stop.TheVariants.{LinkFault, BadAnswer, BadReply, StoreFault, BadMark, WriteFault, NoMemory}
 use Rattle.consume_node.specs.Polls.{port_of, IsPoll}
-use Rattle.consume_node.specs.Runs.{Tried, Unheard, Misled, Starved}
+use Rattle.consume_node.specs.Runs.{Tried, Starved}
 use Rattle.consume_node.specs.Failing.{exchange_stop, KeepsTrue, Settles, Misses, Polled, Gives, Fails, Turned}
 use Rattle.consume_node.proofs.Holding.{good_stored, same_itself}
 

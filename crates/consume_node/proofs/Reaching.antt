@@ -1,16 +1,14 @@
 -- Several polls.
-use Rattle.std.proofs.Common.{◌≡◌, ℕ, ◌+◌, ◌≤◌, List, [], ◌∷◌, ◌++◌, Option, Some, None, refl, sym, ap, subst, ◌∙◌, arith, length, map, append_assoc, append-nil}
+use Rattle.std.proofs.Common.{◌≡◌, ℕ, ◌+◌, List, [], ◌∷◌, ◌++◌, Option, Some, None, refl, sym, ap, subst, ◌∙◌, arith, map, append_assoc, append-nil}
 use Rattle.std.specs.Prelude.{option_map}
 use Rattle.std.specs.Io.KnownBytes.{Appends}
 use Rattle.std.proofs.KnownBytes.{Appends-nil, Appends-trans}
 use Rattle.std.proofs.lemmas.List.{length-append}
 use Rattle.bus_types.specs.Change.{Test}
 use Rattle.bus_types.specs.Window.{Span}
-use Rattle.bus_types.specs.Timeline.{IsTimeline}
 use Rattle.bus_link.specs.Links.{Told}
 use Rattle.bus_stores.specs.Keeper.{KeeperState}
 use Rattle.partition_filter.specs.Selection.{Selection, test_of}
-use Rattle.checkpoint.specs.declared.mark.Mark.{Mark}
 use Rattle.client_switch.specs.Client.{Held, asks, HoldsGood, AreTrueOf}
 use Rattle.bus_node.specs.Exchange.{with_exchange}
 use Rattle.consume_node.specs.Polls.{Poll, port_of, line_of, lines_of, with_polls, IsPoll, Polls, AreTrue}

@@ -103,12 +103,7 @@ fn run<W: Sink, L: Link, K: Keeper>(
     ensures store_fault { IsErrOf result Stop.StoreFault → Rose (K.state keeper.old).faults (K.state keeper.new).faults }
     ensures floor { FloorKept (K.state keeper.old) (K.state keeper.new) }
 {
-    let by = Polling {
-        relay: words.relay,
-        bootstrap: words.bootstrap,
-        polls: words.polls,
-        max: words.max,
-    };
+    let by = Polling::of(&words);
     let name = words.name;
     let mut client = Client::open(alloc, keeper, words.filter)?;
     make_polls(alloc, &by, &mut client, out, link, keeper)?;
