@@ -1,5 +1,5 @@
 -- What a client asks keeps the rules of asks.
-use Rattle.std.proofs.Common.{◌≡◌, ℕ, ◌≤◌, sym, subst, arith}
+use Rattle.std.proofs.Common.{ℕ, ◌≤◌, sym, subst, arith}
 use Rattle.bus_types.specs.declared.limits.TheConstants.{MAX_SCN}
 use Rattle.partition_filter.specs.Selection.{Selection}
 use Rattle.checkpoint.specs.declared.mark.Mark.{Mark}

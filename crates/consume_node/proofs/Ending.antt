@@ -1,5 +1,5 @@
 -- How a run ends.
-use Rattle.std.proofs.Common.{◌≡◌, ℕ, ◌+◌, ◌≤◌, inl, inr, false, List, [], ◌∷◌, ◌++◌, Option, Some, None, Result, Ok, Err, refl, sym, ap, subst, ◌∙◌, arith, length, take, append-nil}
+use Rattle.std.proofs.Common.{◌≡◌, ℕ, ◌+◌, ◌≤◌, inl, inr, false, List, [], ◌∷◌, ◌++◌, Option, Result, Ok, Err, refl, sym, ap, subst, ◌∙◌, arith, length, take, append-nil}
 use Rattle.std.specs.Prelude.{OnOk, OnErr, IfErr}
 use Rattle.std.specs.Io.KnownBytes.{Appends}
 use Rattle.std.proofs.KnownBytes.{Appends-trans}
@@ -8,12 +8,10 @@ use Rattle.bus_link.specs.Links.{Told}
 use Rattle.bus_stores.specs.declared.keeper.StoreFault.{StoreFault}
 use Rattle.bus_stores.specs.declared.keeper.StoreFault.TheVariants as stores
 use Rattle.bus_stores.specs.Keeper.{KeeperState, SameStore}
-use Rattle.bus_stores.proofs.Held.{tells_itself}
 use Rattle.partition_filter.specs.Selection.{Selection, test_of}
 use Rattle.checkpoint.specs.declared.mark.Mark.{Mark}
 use Rattle.client_switch.specs.declared.fault.ClientOpen.{ClientOpen}
 use Rattle.client_switch.specs.declared.fault.ClientOpen.TheVariants as opens
-use Rattle.client_switch.specs.Moves.{Wish}
 use Rattle.client_switch.specs.Moves.Wish.{NoWish}
 use Rattle.client_switch.specs.Client.{Held, Keeps}
 use Rattle.bus_node.specs.declared.words.ConsumeWords.{ConsumeWords}
@@ -21,11 +19,10 @@ use Rattle.bus_node.specs.declared.status.NodeStatus.{NodeStatus}
 use Rattle.bus_node.specs.declared.status.NodeStatus.TheVariants as statuses
 use Rattle.consume_node.specs.declared.stop.Stop.{Stop}
 use Rattle.consume_node.specs.declared.stop.Stop.TheVariants.{LinkFault, BadAnswer, BadReply, StoreFault as KeeperFault, BadMark, WriteFault, NoMemory}
-use Rattle.consume_node.specs.Polls.{Poll, line_of, lines_of}
-use Rattle.consume_node.specs.Runs.{opened, Shows, Unopened, HasNoMark, Ran, IsDone, Stopped, Broken, Ended}
+use Rattle.consume_node.specs.Polls.{lines_of}
+use Rattle.consume_node.specs.Runs.{opened, Shows, HasNoMark, Ran, Stopped, Unshown, Broken, Ended}
 use Rattle.consume_node.specs.Failing.{open_stop, store_stop, stop_status, end_status, Came, Reached, Halted, Cuts, Fails}
-use Rattle.consume_node.proofs.Holding.{good_stored, good_same}
-use Rattle.consume_node.proofs.Polling.{breaks_behind}
+use Rattle.consume_node.proofs.Holding.{good_stored, good_same, same_itself}
 use Rattle.consume_node.proofs.Reaching.{came_more, lines_more}
 
 -- a client that was opened
@@ -69,19 +66,19 @@ module _ {P : Type 0} (given left written : P → Option (List ℕ)) (words : Co
 
     -- it stopped in a poll, or behind them
     stopped : (Last : Held → KeeperState → Option (Told P) → KeeperState → Option (Told P) → Type 0) (count : ℕ) (c : Held) (k : KeeperState) (told1 : Option (Told P)) (out1 : Option (List ℕ)) (k' : KeeperState) (told' : Option (Told P)) (out' : Option (List ℕ))
-        → count ≤ words.polls → Reaches count c k told1 out1 → Last c k told1 k' told' → out' ≡ out1 → Stopped given left written words Last before k' told told' out out'
+        → count + 1 ≤ words.polls → Reaches count c k told1 out1 → Last c k told1 k' told' → out' ≡ out1 → Stopped given left written words Last before k' told told' out out'
     unfolding ran
-    stopped Last count c k told1 out1 k' told' out' few reached last is = record {
-      client = c;
-      keeper = k;
-      between = told1;
-      ran = ran count c k told1 few reached.came;
-      wrote = subst (λ (o : Option (List ℕ)). Appends out o (lines_of mark reached.came.polls)) (sym is) reached.wrote;
-      last = last;
-    }
-
-    same_itself : (k : KeeperState) → SameStore k k
-    same_itself k = record { content = tells_itself k.content; stops = refl }
+    stopped Last count c k told1 out1 k' told' out' few reached last is =
+        let counted = reached.came.counted in
+        record {
+          client = c;
+          keeper = k;
+          between = told1;
+          ran = ran count c k told1 (omega (arith, few)) reached.came;
+          fewer = omega (arith, counted, few);
+          wrote = subst (λ (o : Option (List ℕ)). Appends out o (lines_of mark reached.came.polls)) (sym is) reached.wrote;
+          last = last;
+        }
 
     -- a line was written in part
     cut : (count : ℕ) (c : Held) (k : KeeperState) (told1 : Option (Told P)) (out1 : Option (List ℕ)) (k' : KeeperState) (told' : Option (Told P)) (out' : Option (List ℕ)) → count + 1 ≤ words.polls → Reaches count c k told1 out1
@@ -105,11 +102,11 @@ module _ {P : Type 0} (given left written : P → Option (List ℕ)) (words : Co
 
     failed : (stop : Stop) (count : ℕ) (c : Held) (k : KeeperState) (told1 : Option (Told P)) (out1 : Option (List ℕ)) (k' : KeeperState) (told' : Option (Told P)) (out' : Option (List ℕ)) → count + 1 ≤ words.polls → Reaches count c k told1 out1
         → Fails given left written words.relay words.bootstrap words.max stop c k told1 out1 k' told' out' → Ended given left written words (stop_status stop) before k' told told' out out'
-    failed LinkFault count c k told1 out1 k' told' out' few reached fails = stopped _ count c k told1 out1 k' told' out' (omega (arith, few)) reached fails.misses fails.same
-    failed BadAnswer count c k told1 out1 k' told' out' few reached fails = stopped _ count c k told1 out1 k' told' out' (omega (arith, few)) reached fails.misses fails.same
-    failed (BadReply place) count c k told1 out1 k' told' out' few reached fails = stopped _ count c k told1 out1 k' told' out' (omega (arith, few)) reached fails.misses fails.same
-    failed KeeperFault count c k told1 out1 k' told' out' few reached fails = inr (stopped _ count c k told1 out1 k' told' out' (omega (arith, few)) reached fails.misses fails.same)
-    failed NoMemory count c k told1 out1 k' told' out' few reached fails = inr (stopped _ count c k told1 out1 k' told' out' (omega (arith, few)) reached fails.misses fails.same)
+    failed LinkFault count c k told1 out1 k' told' out' few reached fails = stopped _ count c k told1 out1 k' told' out' few reached fails.misses fails.same
+    failed BadAnswer count c k told1 out1 k' told' out' few reached fails = stopped _ count c k told1 out1 k' told' out' few reached fails.misses fails.same
+    failed (BadReply place) count c k told1 out1 k' told' out' few reached fails = stopped _ count c k told1 out1 k' told' out' few reached fails.misses fails.same
+    failed KeeperFault count c k told1 out1 k' told' out' few reached fails = inr (inl (stopped _ count c k told1 out1 k' told' out' few reached fails.misses fails.same))
+    failed NoMemory count c k told1 out1 k' told' out' few reached fails = inr (inl (stopped _ count c k told1 out1 k' told' out' few reached fails.misses fails.same))
     failed BadMark count c k told1 out1 k' told' out' few reached fails = absurd fails
     failed WriteFault count c k told1 out1 k' told' out' few reached fails = cut count c k told1 out1 k' told' out' few reached fails
 
@@ -118,11 +115,22 @@ module _ {P : Type 0} (given left written : P → Option (List ℕ)) (words : Co
         → Ended given left written words (stop_status stop) before k' told told' out out'
     halted stop k' told' out' h = failed stop h.some h.client h.keeper h.between h.so_far k' told' out' h.fewer h.reached h.fails
 
+    read_only : (c : Held) (k k' : KeeperState) (told' : Option (Told P)) (out' : Option (List ℕ)) → Reaches words.polls c k told' out' → SameStore k k' → Unshown given left written words before k' told told' out out'
+    unfolding ran
+    read_only c k k' told' out' reached kept = record {
+      client = c;
+      keeper = k;
+      ran = ran words.polls c k told' (omega arith) reached.came;
+      all = reached.came.counted;
+      same = kept;
+      wrote = reached.wrote;
+    }
+
     -- they were all made, and what the keeper holds was not shown
     unshown : (fault : StoreFault) (c : Held) (k k' : KeeperState) (told' : Option (Told P)) (out' : Option (List ℕ)) → Reaches words.polls c k told' out' → SameStore k k'
         → Ended given left written words (stop_status (store_stop fault)) before k' told told' out out'
-    unshown stores.Failed c k k' told' out' reached kept = inr (stopped _ words.polls c k told' out' k' told' out' (omega arith) reached (breaks_behind given left written words.relay words.bootstrap words.max c k k' told' kept) refl)
-    unshown stores.NoMemory c k k' told' out' reached kept = inr (stopped _ words.polls c k told' out' k' told' out' (omega arith) reached (breaks_behind given left written words.relay words.bootstrap words.max c k k' told' kept) refl)
+    unshown stores.Failed c k k' told' out' reached kept = inr (inr (read_only c k k' told' out' reached kept))
+    unshown stores.NoMemory c k k' told' out' reached kept = inr (inr (read_only c k k' told' out' reached kept))
 
     -- it was shown, or a front of that was written
     was_shown : (result : Result Unit Stop) (c : Held) (k k' : KeeperState) (told' : Option (Told P)) (out1 out' : Option (List ℕ)) (text : List ℕ) → Reaches words.polls c k told' out1 → SameStore k k' → Shows words.name c.mark k' text

@@ -10,7 +10,7 @@ use Rattle.checkpoint.proofs.ReadBack.{one_mark}
 use Rattle.bus_wire.specs.declared.ask.Ask.{Ask}
 use Rattle.bus_stores.specs.declared.keeper.Stop.TheVariants.{Before, After}
 use Rattle.bus_stores.specs.Keeper.{KeeperState, Content, Move, TellsOnly, SameStore, content_after}
-use Rattle.bus_stores.proofs.Held.{told_on}
+use Rattle.bus_stores.proofs.Held.{told_on, tells_itself as tells_themselves}
 use Rattle.dispatcher.specs.Callbacks.{Call}
 use Rattle.client_switch.specs.declared.client.Took.{Took}
 use Rattle.client_switch.specs.declared.fault.TakeFault.{TakeFault}
@@ -21,6 +21,9 @@ use Rattle.client_switch.specs.Client.{Held, IsStored, Keeps, move_of_turn, Made
 use Rattle.consumer_lines.specs.Shown.{shown_text}
 use Rattle.consume_node.specs.Runs.{Shows}
 use Rattle.consume_node.specs.Failing.{TellsFrom}
+
+pub same_itself : (state : KeeperState) → SameStore state state
+same_itself state = record { content = tells_themselves state.content; stops = refl }
 
 -- ---- what it tells it told before
 
@@ -68,6 +71,10 @@ tells_taken (Err (Refused scn)) old new ask bytes kept keeps before after takes 
 tells_taken (Err StoreFault) old new ask bytes kept keeps before after takes = tells_unmade (turn old.mark takes.reply).commits (move_of_turn (turn old.mark takes.reply)) kept keeps takes.unmade
 tells_taken (Err NoMemory) old new ask bytes kept keeps before after takes = tells_same kept keeps takes.keeper
 
+-- in want of memory it is as it was
+pub short_same : (old new : Held) (ask : Ask) (bytes : List ℕ) (kept keeps : KeeperState) (before after : Option (List Call)) → Takes (Err NoMemory) old new ask bytes kept keeps before after → SameStore kept keeps
+short_same old new ask bytes kept keeps before after takes = takes.keeper
+
 -- ---- the floor of its mark
 
 -- one text is that of one mark
@@ -102,16 +109,9 @@ module _ (ws : List Span) (test : Test) where
   good_at None mark stored good = tt
   good_at (Some c) mark stored good = (stored, subst (λ m. Good ws test m c.rows) (one_stored c.mark good.0 mark good.1 stored) good.2)
 
-  good_in : (o : Option Content) (mark : Mark) → IfSome o (λ c. IsStored c.mark mark × Good ws test mark c.rows) → IfSome o (λ c. (m : Mark) × IsStored c.mark m × Good ws test m c.rows)
-  good_in None mark good = tt
-  good_in (Some c) mark good = (mark, good.0, good.1)
-
   -- by the mark that is stored
   pub good_stored : (state : KeeperState) (mark : Mark) → Keeps state mark → KeepsGood ws test state → HoldsGood ws test mark state
   good_stored state mark stored good = good_at state.content mark stored good
-
-  pub good_kept : (state : KeeperState) (mark : Mark) → HoldsGood ws test mark state → KeepsGood ws test state
-  good_kept state mark good = good_in state.content mark good
 
   pub good_same : (old new : KeeperState) → SameStore old new → KeepsGood ws test old → KeepsGood ws test new
   good_same old new same good = told_on (λ c. (m : Mark) × IsStored c.mark m × Good ws test m c.rows) old.content new.content same.content good

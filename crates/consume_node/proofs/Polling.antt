@@ -1,23 +1,24 @@
 -- One poll.
-use Rattle.std.proofs.Common.{◌≡◌, ℕ, ◌≤◌, inl, inr, false, List, Option, Some, None, Result, Ok, Err, String, string_bytes, refl, sym, ap, subst, ◌∙◌, arith, length, take}
-use Rattle.std.specs.Prelude.{option_map, IfSome, OnOk, OnErr, IfErr, IsErrOf}
+use Rattle.std.proofs.Common.{◌≡◌, ℕ, inl, inr, List, Option, None, Result, Ok, Err, String, refl, sym, subst, take}
+use Rattle.std.specs.Prelude.{OnOk, OnErr, IfErr}
 use Rattle.std.specs.Global.{Global}
 use Rattle.std.specs.Io.KnownBytes.{Appends}
 use Rattle.bus_link.specs.Links.{Told}
-use Rattle.bus_stores.specs.Keeper.{KeeperState, SameStore}
+use Rattle.bus_stores.specs.Keeper.{KeeperState}
 use Rattle.bus_wire.specs.declared.ask.Ask.{Ask}
 use Rattle.bus_wire.specs.declared.ask.Ask.TheVariants.{Stream, Start, Scan, Target, Catchup, Delta}
 use Rattle.partition_filter.specs.Selection.{test_of}
-use Rattle.client_switch.specs.Client.{Held, Keeps, IsAskOf, asks}
+use Rattle.client_switch.specs.Client.{Held, Keeps, IsAskOf, asks, TakesIt}
+use Rattle.client_switch.specs.declared.client.Took.{Took}
 use Rattle.bus_node.specs.declared.exchanging.ExchangeFault.{ExchangeFault}
 use Rattle.bus_node.specs.declared.exchanging.ExchangeFault.TheVariants as exchanges
 use Rattle.bus_node.specs.Exchange.{Exchanged, HandedBack, IsAnswered, IsMisanswered}
 use Rattle.consume_node.specs.declared.stop.Stop.{Stop}
 use Rattle.consume_node.specs.declared.stop.Stop.TheVariants.{LinkFault, BadAnswer, BadReply, StoreFault, BadMark, WriteFault, NoMemory}
-use Rattle.consume_node.specs.Polls.{port_of}
-use Rattle.consume_node.specs.Runs.{Tried, Unheard, Misled, BreaksOff}
+use Rattle.consume_node.specs.Polls.{port_of, IsPoll}
+use Rattle.consume_node.specs.Runs.{Tried, Starved}
 use Rattle.consume_node.specs.Failing.{exchange_stop, KeepsTrue, Settles, Misses, Polled, Gives, Fails, Turned}
-use Rattle.consume_node.proofs.Holding.{good_stored, good_kept, good_same}
+use Rattle.consume_node.proofs.Holding.{good_stored, same_itself}
 
 -- ---- connections
 
@@ -37,63 +38,51 @@ module _ {P : Type 0} (given left written : P → Option (List ℕ)) (relay boot
   -- ---- no reply
 
   -- nothing was done
-  pub breaks_before : (c : Held) (k : KeeperState) (told : Option (Told P)) → BreaksOff given left written relay bootstrap most c k told k told
-  breaks_before c k told = record {
-    tried = inl (inl refl);
-    last = None;
-    good = λ ws timeline good _. good_kept ws (test_of c.filter) k c.mark good;
-  }
-
-  -- nothing was done but the keeper read
-  pub breaks_behind : (c : Held) (k k' : KeeperState) (told : Option (Told P)) → SameStore k k' → BreaksOff given left written relay bootstrap most c k told k' told
-  breaks_behind c k k' told same = record {
-    tried = inl (inl refl);
-    last = None;
-    good = λ ws timeline good _. good_same ws (test_of c.filter) k k' same (good_kept ws (test_of c.filter) k c.mark good);
-  }
+  pub starved_before : (c : Held) (k : KeeperState) (told : Option (Told P)) → Starved given left written relay bootstrap most c k told k told
+  starved_before c k told = inl (inl (inl refl), same_itself k)
 
   -- there was no answer
   pub exchange_misses : (fault : ExchangeFault) (c : Held) (k : KeeperState) (told told' : Option (Told P)) (ask : Ask) → IsAskOf c.filter (asks c most) ask
       → HandedBack P (port_of relay bootstrap ask) told told'
-      → (fault ≡ exchanges.BadAnswer → Exchanged P (λ peer. IsMisanswered ask (written peer) (given peer) (left peer)) (port_of relay bootstrap ask) told told')
+      → (fault ≡ exchanges.BadAnswer → Exchanged P (IsMisanswered given left written ask) (port_of relay bootstrap ask) told told')
       → Misses given left written relay bootstrap most (exchange_stop fault) c k told k told'
   exchange_misses exchanges.LinkFault c k told told' ask asked back bad = record { tried = tried_at relay bootstrap told told' ask back; same = refl }
   exchange_misses exchanges.BadAnswer c k told told' ask asked back bad = record { ask = ask; asked = asked; exchanged = bad refl; same = refl }
-  exchange_misses exchanges.NoMemory c k told told' ask asked back bad = record {
-    tried = tried_at relay bootstrap told told' ask back;
-    last = None;
-    good = λ ws timeline good _. good_kept ws (test_of c.filter) k c.mark good;
-  }
+  exchange_misses exchanges.NoMemory c k told told' ask asked back bad = inl (tried_at relay bootstrap told told' ask back, same_itself k)
 
   -- ---- a reply
 
-  breaks_with : (c : Held) (k k' : KeeperState) (told told' : Option (Told P)) (ask : Ask) (body : List ℕ) → KeepsTrue most c ask body k k'
-      → Exchanged P (λ peer. IsAnswered ask (written peer) (given peer) body) (port_of relay bootstrap ask) told told' → BreaksOff given left written relay bootstrap most c k told k' told'
-  breaks_with c k k' told told' ask body good exchanged = record {
-    tried = tried_at relay bootstrap told told' ask (handed_back relay bootstrap told told' (port_of relay bootstrap ask) exchanged);
-    last = Some (ask, body);
-    good = good;
+  is_poll : (c c' : Held) (k k' : KeeperState) (ask : Ask) (body : List ℕ) (took : Took) (peer : P) → IsAskOf c.filter (asks c most) ask → IsAnswered given left written ask body peer → TakesIt took c c' ask body k k' None None → Keeps k' c'.mark → KeepsTrue most c ask body k k'
+      → IsPoll given left written most c k (record { ask = ask; peer = peer; body = body; took = took; client = c'; keeper = k' })
+  is_poll c c' k k' ask body took peer asked answered taken stored good = record {
+    asked = asked;
+    answered = answered;
+    taken = taken;
+    good = λ ws timeline held true_of. good_stored ws (test_of c.filter) k' c'.mark stored (good ws timeline held true_of);
   }
 
   settle_is : (result : Result (String Global) Stop) (c c' : Held) (k k' : KeeperState) (told told' : Option (Told P)) (ask : Ask) (body : List ℕ) → IsAskOf c.filter (asks c most) ask
-      → Exchanged P (λ peer. IsAnswered ask (written peer) (given peer) body) (port_of relay bootstrap ask) told told'
+      → Exchanged P (IsAnswered given left written ask body) (port_of relay bootstrap ask) told told'
       → Settles result c c' ask body k k' → OnOk result (Keeps k c.mark → Keeps k' c'.mark) → Keeps k c.mark → KeepsTrue most c ask body k k' → Polled given left written relay bootstrap most result c k told c' k' told'
   settle_is (Ok text) c c' k k' told told' ask body asked exchanged settles keeps stored good = record {
     poll = record { ask = ask; peer = exchanged.0; body = body; took = settles.took; client = c'; keeper = k' };
-    is = record {
-      asked = asked;
-      answered = exchanged.2;
-      taken = settles.taken;
-      good = λ ws timeline held true_of. good_stored ws (test_of c.filter) k' c'.mark (keeps stored) (good ws timeline held true_of);
-    };
+    is = is_poll c c' k k' ask body settles.took exchanged.0 asked exchanged.2 settles.taken (keeps stored) good;
     client = refl;
     keeper = refl;
     linked = exchanged.1;
     line = settles.is;
   }
   settle_is (Err (BadReply place)) c c' k k' told told' ask body asked exchanged settles keeps stored good = record { ask = ask; body = body; asked = asked; exchanged = exchanged; refused = settles }
-  settle_is (Err StoreFault) c c' k k' told told' ask body asked exchanged settles keeps stored good = breaks_with c k k' told told' ask body good exchanged
-  settle_is (Err NoMemory) c c' k k' told told' ask body asked exchanged settles keeps stored good = breaks_with c k k' told told' ask body good exchanged
+  settle_is (Err StoreFault) c c' k k' told told' ask body asked exchanged settles keeps stored good =
+      record { ask = ask; body = body; asked = asked; exchanged = exchanged; client = settles.0; halts = settles.1; good = good }
+  settle_is (Err NoMemory) c c' k k' told told' ask body asked exchanged (inl same) keeps stored good =
+      inl (tried_at relay bootstrap told told' ask (handed_back relay bootstrap told told' (port_of relay bootstrap ask) exchanged), same)
+  settle_is (Err NoMemory) c c' k k' told told' ask body asked exchanged (inr loses) keeps stored good = inr (record {
+    poll = record { ask = ask; peer = exchanged.0; body = body; took = loses.took; client = loses.client; keeper = k' };
+    is = is_poll c loses.client k k' ask body loses.took exchanged.0 asked exchanged.2 loses.taken (loses.keeps stored) good;
+    keeper = refl;
+    linked = exchanged.1;
+  })
   settle_is (Err LinkFault) c c' k k' told told' ask body asked exchanged settles keeps stored good = absurd settles
   settle_is (Err BadAnswer) c c' k k' told told' ask body asked exchanged settles keeps stored good = absurd settles
   settle_is (Err BadMark) c c' k k' told told' ask body asked exchanged settles keeps stored good = absurd settles
@@ -101,12 +90,12 @@ module _ {P : Type 0} (given left written : P → Option (List ℕ)) (relay boot
 
   -- the same by the port and the bytes as they were handed on
   pub settle_polls : (result : Result (String Global) Stop) (c c' : Held) (k k' : KeeperState) (told told' : Option (Told P)) (ask : Ask) (body items : List ℕ) (port : ℕ) → body ≡ items → port ≡ port_of relay bootstrap ask → IsAskOf c.filter (asks c most) ask
-      → Exchanged P (λ peer. IsAnswered ask (written peer) (given peer) items) port told told'
+      → Exchanged P (IsAnswered given left written ask items) port told told'
       → Settles result c c' ask body k k' → OnOk result (Keeps k c.mark → Keeps k' c'.mark) → Keeps k c.mark → KeepsTrue most c ask body k k' → Polled given left written relay bootstrap most result c k told c' k' told'
   settle_polls result c c' k k' told told' ask body items port same at asked exchanged settles keeps stored good =
       settle_is result c c' k k' told told' ask body asked
-      (subst (λ (n : ℕ). Exchanged P (λ peer. IsAnswered ask (written peer) (given peer) body) n told told') at
-      (subst (λ (b : List ℕ). Exchanged P (λ peer. IsAnswered ask (written peer) (given peer) b) port told told') (sym same) exchanged))
+      (subst (λ (n : ℕ). Exchanged P (IsAnswered given left written ask body) n told told') at
+      (subst (λ (b : List ℕ). Exchanged P (IsAnswered given left written ask b) port told told') (sym same) exchanged))
       settles keeps stored good
 
   -- ---- its line

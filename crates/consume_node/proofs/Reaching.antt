@@ -1,16 +1,14 @@
 -- Several polls.
-use Rattle.std.proofs.Common.{◌≡◌, ℕ, ◌+◌, ◌≤◌, List, [], ◌∷◌, ◌++◌, Option, Some, None, refl, sym, ap, subst, ◌∙◌, arith, length, map, append_assoc, append-nil}
+use Rattle.std.proofs.Common.{◌≡◌, ℕ, ◌+◌, List, [], ◌∷◌, ◌++◌, Option, Some, None, refl, sym, ap, subst, ◌∙◌, arith, map, append_assoc, append-nil}
 use Rattle.std.specs.Prelude.{option_map}
 use Rattle.std.specs.Io.KnownBytes.{Appends}
 use Rattle.std.proofs.KnownBytes.{Appends-nil, Appends-trans}
 use Rattle.std.proofs.lemmas.List.{length-append}
 use Rattle.bus_types.specs.Change.{Test}
 use Rattle.bus_types.specs.Window.{Span}
-use Rattle.bus_types.specs.Timeline.{IsTimeline}
 use Rattle.bus_link.specs.Links.{Told}
 use Rattle.bus_stores.specs.Keeper.{KeeperState}
 use Rattle.partition_filter.specs.Selection.{Selection, test_of}
-use Rattle.checkpoint.specs.declared.mark.Mark.{Mark}
 use Rattle.client_switch.specs.Client.{Held, asks, HoldsGood, AreTrueOf}
 use Rattle.bus_node.specs.Exchange.{with_exchange}
 use Rattle.consume_node.specs.Polls.{Poll, port_of, line_of, lines_of, with_polls, IsPoll, Polls, AreTrue}
@@ -19,15 +17,15 @@ use Rattle.consume_node.specs.Failing.{Gives, Turns, Came, Reached}
 module _ {P : Type 0} (given left written : P → Option (List ℕ)) (relay bootstrap most : ℕ) where
   -- ---- one poll behind others
 
-  pub polls_more : (c : Held) (k : KeeperState) (ps : List (Poll P)) (c1 : Held) (k1 : KeeperState) (p : Poll P) → Polls given written most c k ps c1 k1 → IsPoll given written most c1 k1 p → Polls given written most c k (ps ++ p ∷ []) p.client p.keeper
-  polls_more c k [] c1 k1 p made is = (subst (λ (d : Held). IsPoll given written most d k p) made.0 (subst (λ (s : KeeperState). IsPoll given written most c1 s p) made.1 is), (refl, refl))
+  pub polls_more : (c : Held) (k : KeeperState) (ps : List (Poll P)) (c1 : Held) (k1 : KeeperState) (p : Poll P) → Polls given left written most c k ps c1 k1 → IsPoll given left written most c1 k1 p → Polls given left written most c k (ps ++ p ∷ []) p.client p.keeper
+  polls_more c k [] c1 k1 p made is = (subst (λ (d : Held). IsPoll given left written most d k p) made.0 (subst (λ (s : KeeperState). IsPoll given left written most c1 s p) made.1 is), (refl, refl))
   polls_more c k (q ∷ ps) c1 k1 p made is = (made.0, polls_more q.client q.keeper ps c1 k1 p made.1 is)
 
-  pub lines_more : (c : Held) (k : KeeperState) (ps : List (Poll P)) (c1 : Held) (k1 : KeeperState) (p : Poll P) → Polls given written most c k ps c1 k1 → lines_of c.mark (ps ++ p ∷ []) ≡ lines_of c.mark ps ++ line_of c1.mark p
+  pub lines_more : (c : Held) (k : KeeperState) (ps : List (Poll P)) (c1 : Held) (k1 : KeeperState) (p : Poll P) → Polls given left written most c k ps c1 k1 → lines_of c.mark (ps ++ p ∷ []) ≡ lines_of c.mark ps ++ line_of c1.mark p
   lines_more c k [] c1 k1 p made = append-nil (line_of c.mark p) ∙ ap (λ (d : Held). line_of d.mark p) (sym made.0)
   lines_more c k (q ∷ ps) c1 k1 p made = ap (λ (l : List ℕ). line_of c.mark q ++ l) (lines_more q.client q.keeper ps c1 k1 p made.1) ∙ sym (append_assoc (line_of c.mark q) (lines_of q.client.mark ps) (line_of c1.mark p))
 
-  pub true_more : (ws : List Span) (test : Test) (c : Held) (k : KeeperState) (ps : List (Poll P)) (c1 : Held) (k1 : KeeperState) (p : Poll P) → Polls given written most c k ps c1 k1 → AreTrue ws test most c (ps ++ p ∷ []) → AreTrue ws test most c ps × AreTrueOf ws test (asks c1 most) p.ask p.body
+  pub true_more : (ws : List Span) (test : Test) (c : Held) (k : KeeperState) (ps : List (Poll P)) (c1 : Held) (k1 : KeeperState) (p : Poll P) → Polls given left written most c k ps c1 k1 → AreTrue ws test most c (ps ++ p ∷ []) → AreTrue ws test most c ps × AreTrueOf ws test (asks c1 most) p.ask p.body
   true_more ws test c k [] c1 k1 p made all = (tt, subst (λ (d : Held). AreTrueOf ws test (asks d most) p.ask p.body) (sym made.0) all.0)
   true_more ws test c k (q ∷ ps) c1 k1 p made all = (let rest = true_more ws test q.client q.keeper ps c1 k1 p made.1 all.1 in ((all.0, rest.0), rest.1))
 
@@ -69,7 +67,7 @@ module _ {P : Type 0} (given left written : P → Option (List ℕ)) (relay boot
       let counted = came.counted in
       record {
         polls = came.polls ++ p ∷ [];
-        made = subst (λ (d : Held). Polls given written most c k (came.polls ++ p ∷ []) d k2) (sym gives.client) (subst (λ (s : KeeperState). Polls given written most c k (came.polls ++ p ∷ []) p.client s) (sym gives.keeper) (polls_more c k came.polls c1 k1 p came.made gives.is));
+        made = subst (λ (d : Held). Polls given left written most c k (came.polls ++ p ∷ []) d k2) (sym gives.client) (subst (λ (s : KeeperState). Polls given left written most c k (came.polls ++ p ∷ []) p.client s) (sym gives.keeper) (polls_more c k came.polls c1 k1 p came.made gives.is));
         counted = omega (arith, both, counted);
         linked = gives.linked ∙ ap (option_map (with_exchange (port_of relay bootstrap p.ask) p.peer)) came.linked ∙ told_more told came.polls p;
         filter = same ∙ came.filter;
@@ -85,7 +83,7 @@ module _ {P : Type 0} (given left written : P → Option (List ℕ)) (relay boot
   reached_none c k told out = record { came = came_none c k told; wrote = Appends-nil out }
 
   -- the lines of polls with one more
-  pub wrote_more : (c : Held) (k : KeeperState) (ps : List (Poll P)) (c1 : Held) (k1 : KeeperState) (p : Poll P) (text : List ℕ) (out out1 out2 : Option (List ℕ)) → Polls given written most c k ps c1 k1 → text ≡ line_of c1.mark p
+  pub wrote_more : (c : Held) (k : KeeperState) (ps : List (Poll P)) (c1 : Held) (k1 : KeeperState) (p : Poll P) (text : List ℕ) (out out1 out2 : Option (List ℕ)) → Polls given left written most c k ps c1 k1 → text ≡ line_of c1.mark p
       → Appends out out1 (lines_of c.mark ps) → Appends out1 out2 text → Appends out out2 (lines_of c.mark (ps ++ p ∷ []))
   wrote_more c k ps c1 k1 p text out out1 out2 made line one two =
       subst (Appends out out2) (sym (lines_more c k ps c1 k1 p made)) (Appends-trans out out1 out2 (lines_of c.mark ps) (line_of c1.mark p) one (subst (Appends out1 out2) line two))

@@ -1,11 +1,11 @@
 -- For private functions alone: what a poll does, by its answer, and what polls have done together.
-use Rattle.std.specs.Prelude.{◌≡◌, ℕ, ◌+◌, ◌≤◌, List, [], ◌∷◌, ◌++◌, length, take, Option, Some, None, option_map, is_some, true, IfSome, String, string_bytes, Result, Ok, Err}
+use Rattle.std.specs.Prelude.{◌≡◌, ℕ, ◌+◌, ◌≤◌, ◌⊎◌, List, length, take, Option, None, option_map, is_some, true, IfSome, String, string_bytes, Result, Ok, Err}
 use Rattle.std.specs.Global.{Global}
 use Rattle.std.specs.Io.KnownBytes.{Appends}
 use Rattle.bus_types.specs.Window.{Span}
 use Rattle.bus_types.specs.Timeline.{IsTimeline}
 use Rattle.bus_link.specs.Links.{Told}
-use Rattle.bus_stores.specs.Keeper.{KeeperState}
+use Rattle.bus_stores.specs.Keeper.{KeeperState, SameStore}
 use Rattle.bus_stores.specs.declared.keeper.StoreFault.{StoreFault}
 use Rattle.bus_stores.specs.declared.keeper.StoreFault.TheVariants as stores
 use Rattle.bus_wire.specs.declared.ask.Ask.{Ask}
@@ -15,7 +15,7 @@ use Rattle.consumer_lines.specs.Shown.{stage_of}
 use Rattle.client_switch.specs.declared.client.Took.{Took}
 use Rattle.client_switch.specs.declared.fault.ClientOpen.{ClientOpen}
 use Rattle.client_switch.specs.declared.fault.ClientOpen.TheVariants as opens
-use Rattle.client_switch.specs.Client.{Held, asks, TakesIt, RefusesReply, HoldsGood, KeepsGood, AreTrueOf}
+use Rattle.client_switch.specs.Client.{Held, Keeps, asks, TakesIt, RefusesReply, Halts, HoldsGood, KeepsGood, AreTrueOf}
 use Rattle.bus_node.specs.declared.exchanging.ExchangeFault.{ExchangeFault}
 use Rattle.bus_node.specs.declared.exchanging.ExchangeFault.TheVariants as exchanges
 use Rattle.bus_node.specs.Exchange.{with_exchange}
@@ -24,7 +24,7 @@ use Rattle.bus_node.specs.declared.status.NodeStatus.TheVariants as statuses
 use Rattle.consume_node.specs.declared.stop.Stop.{Stop}
 use Rattle.consume_node.specs.declared.stop.Stop.TheVariants.{LinkFault, BadAnswer, BadReply, StoreFault as KeeperFault, BadMark, WriteFault, NoMemory}
 use Rattle.consume_node.specs.Polls.{Poll, port_of, line_of, lines_of, with_polls, IsPoll, Polls, AreTrue}
-use Rattle.consume_node.specs.Runs.{Unheard, Misled, Unlawful, BreaksOff}
+use Rattle.consume_node.specs.Runs.{Unheard, Misled, Unlawful, Unstored, Starved}
 
 -- ---- faults
 
@@ -66,11 +66,18 @@ abbrev pub KeepsTrue : ℕ → Held → Ask → List ℕ → KeeperState → Kee
 KeepsTrue most c ask bytes k k' = (ws : List Span) → IsTimeline ws → HoldsGood ws (test_of c.filter) c.mark k
     → AreTrueOf ws (test_of c.filter) (asks c most) ask bytes → KeepsGood ws (test_of c.filter) k'
 
--- why a reply wasn't taken
+-- a reply was taken, and its line was lost for want of memory
+pub record Loses (c : Held) (ask : Ask) (bytes : List ℕ) (k k' : KeeperState) : Type 0 where
+  pub took : Took
+  pub client : Held
+  pub taken : TakesIt took c client ask bytes k k' None None
+  pub keeps : Keeps k c.mark → Keeps k' client.mark
+
+-- why a reply wasn't taken, or gave no line
 abbrev pub Untaken : Stop → Held → Ask → List ℕ → KeeperState → KeeperState → Type 0
 Untaken (BadReply place) c ask bytes k k' = RefusesReply place c c ask bytes k k' None None
-Untaken KeeperFault c ask bytes k k' = Unit {0}
-Untaken NoMemory c ask bytes k k' = Unit {0}
+Untaken KeeperFault c ask bytes k k' = (c' : Held) × Halts c c' ask bytes k k' None None
+Untaken NoMemory c ask bytes k k' = SameStore k k' ⊎ Loses c ask bytes k k'
 Untaken LinkFault c ask bytes k k' = ⊥
 Untaken BadAnswer c ask bytes k k' = ⊥
 Untaken BadMark c ask bytes k k' = ⊥
@@ -97,7 +104,7 @@ module _ {P : Type 0} (given left written : P → Option (List ℕ)) (relay boot
   -- a poll was made, and this is its line
   pub record Gives (c : Held) (k : KeeperState) (told : Option (Told P)) (c' : Held) (k' : KeeperState) (told' : Option (Told P)) (text : List ℕ) : Type 0 where
     pub poll : Poll P
-    pub is : IsPoll given written most c k poll
+    pub is : IsPoll given left written most c k poll
     pub client : c' ≡ poll.client
     pub keeper : k' ≡ poll.keeper
     pub linked : told' ≡ option_map (with_exchange (port_of relay bootstrap poll.ask) poll.peer) told
@@ -108,10 +115,10 @@ module _ {P : Type 0} (given left written : P → Option (List ℕ)) (relay boot
   Misses LinkFault c k told k' told' = Unheard given left written relay bootstrap most c k told k' told'
   Misses BadAnswer c k told k' told' = Misled given left written relay bootstrap most c k told k' told'
   Misses (BadReply place) c k told k' told' = Unlawful given left written relay bootstrap most place c k told k' told'
-  Misses KeeperFault c k told k' told' = BreaksOff given left written relay bootstrap most c k told k' told'
+  Misses KeeperFault c k told k' told' = Unstored given left written relay bootstrap most c k told k' told'
   Misses BadMark c k told k' told' = ⊥
   Misses WriteFault c k told k' told' = ⊥
-  Misses NoMemory c k told k' told' = BreaksOff given left written relay bootstrap most c k told k' told'
+  Misses NoMemory c k told k' told' = Starved given left written relay bootstrap most c k told k' told'
 
   abbrev pub Polled : Result (String Global) Stop → Held → KeeperState → Option (Told P) → Held → KeeperState → Option (Told P) → Type 0
   Polled (Ok text) c k told c' k' told' = Gives c k told c' k' told' (string_bytes text)
@@ -152,7 +159,7 @@ module _ {P : Type 0} (given left written : P → Option (List ℕ)) (relay boot
   -- so many polls were made from a client and a keeper on, and left them so
   pub record Came (c : Held) (k : KeeperState) (told : Option (Told P)) (count : ℕ) (c' : Held) (k' : KeeperState) (told' : Option (Told P)) : Type 0 where
     pub polls : List (Poll P)
-    pub made : Polls given written most c k polls c' k'
+    pub made : Polls given left written most c k polls c' k'
     pub counted : length polls ≡ count
     pub linked : told' ≡ option_map (with_polls relay bootstrap polls) told
     pub filter : c'.filter ≡ c.filter

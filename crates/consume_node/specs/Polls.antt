@@ -50,13 +50,13 @@ with_polls {P} relay bootstrap ps t = record t {
   hung_up = t.hung_up ++ map (λ (p : Poll P). p.peer) ps;
 }
 
-module _ {P : Type 0} (given written : P → Option (List ℕ)) (most : ℕ) where
+module _ {P : Type 0} (given left written : P → Option (List ℕ)) (most : ℕ) where
   -- a poll from this client and keeper on: what the client asks for at most so many bytes was written to a connection, it gave an
   -- answer with this body, and the client took that as a lawful reply. Where the reply is true of a timeline, rows and mark that
   -- are good for the timeline stay so
   pub record IsPoll (c : Held) (k : KeeperState) (p : Poll P) : Type 0 where
     pub asked : IsAskOf c.filter (asks c most) p.ask
-    pub answered : IsAnswered p.ask (written p.peer) (given p.peer) p.body
+    pub answered : IsAnswered given left written p.ask p.body p.peer
     pub taken : TakesIt p.took c p.client p.ask p.body k p.keeper None None
     pub good : (ws : List Span) → IsTimeline ws → HoldsGood ws (test_of c.filter) c.mark k
         → AreTrueOf ws (test_of c.filter) (asks c most) p.ask p.body → HoldsGood ws (test_of c.filter) p.client.mark p.keeper

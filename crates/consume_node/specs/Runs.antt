@@ -1,5 +1,5 @@
 -- What a consumer has done when it ends, by its status.
-use Rattle.std.specs.Prelude.{◌≡◌, ℕ, ◌≤◌, ◌⊎◌, false, List, [], ◌++◌, length, take, Option, Some, None, option_map, IfSome}
+use Rattle.std.specs.Prelude.{◌≡◌, ℕ, ◌+◌, ◌≤◌, ◌⊎◌, false, List, [], ◌++◌, length, take, Option, None, option_map, IfSome}
 use Rattle.std.specs.Io.KnownBytes.{Appends}
 use Rattle.bus_types.specs.Window.{Span}
 use Rattle.bus_types.specs.Timeline.{IsTimeline}
@@ -10,13 +10,13 @@ use Rattle.bus_wire.specs.declared.ask.Ask.{Ask}
 use Rattle.partition_filter.specs.Selection.{Selection, test_of}
 use Rattle.checkpoint.specs.declared.mark.Mark.{Mark}
 use Rattle.client_switch.specs.Moves.Wish.{NoWish}
-use Rattle.client_switch.specs.Client.{Held, IsStored, Keeps, IsAskOf, asks, RefusesReply, HoldsGood, KeepsGood, AreTrueOf}
+use Rattle.client_switch.specs.Client.{Held, IsStored, Keeps, IsAskOf, asks, RefusesReply, Halts, HoldsGood, KeepsGood, AreTrueOf}
 use Rattle.consumer_lines.specs.Shown.{shown_text}
-use Rattle.bus_node.specs.Exchange.{Exchanged, HandedBack, IsAnswered, IsMisanswered}
+use Rattle.bus_node.specs.Exchange.{with_exchange, Exchanged, HandedBack, IsAnswered, IsMisanswered}
 use Rattle.bus_node.specs.declared.words.ConsumeWords.{ConsumeWords}
 use Rattle.bus_node.specs.declared.status.NodeStatus.{NodeStatus}
 use Rattle.bus_node.specs.declared.status.NodeStatus.TheVariants.{Done, Usage, BadLine, ReadFault, WriteFault, NoMemory, TooLong, LinkFault, StoreFault, WrongWord, BadAnswer, BadReply, BadMark, Ahead, Hole}
-use Rattle.consume_node.specs.Polls.{Poll, port_of, lines_of, with_polls, Polls, AreTrue}
+use Rattle.consume_node.specs.Polls.{Poll, port_of, lines_of, with_polls, IsPoll, Polls, AreTrue}
 
 -- a client that was just opened
 abbrev pub opened : Selection → Mark → Held
@@ -45,7 +45,7 @@ module _ {P : Type 0} (given left written : P → Option (List ℕ)) (relay boot
   pub record Misled (c : Held) (k : KeeperState) (told : Option (Told P)) (k' : KeeperState) (told' : Option (Told P)) : Type 0 where
     pub ask : Ask
     pub asked : IsAskOf c.filter (asks c most) ask
-    pub exchanged : Exchanged P (λ peer. IsMisanswered ask (written peer) (given peer) (left peer)) (port_of relay bootstrap ask) told told'
+    pub exchanged : Exchanged P (IsMisanswered given left written ask) (port_of relay bootstrap ask) told told'
     pub same : k' ≡ k
 
   -- what the client asks was written to a connection, that gave an answer, and its body is no lawful reply: the place is that of
@@ -54,15 +54,31 @@ module _ {P : Type 0} (given left written : P → Option (List ℕ)) (relay boot
     pub ask : Ask
     pub body : List ℕ
     pub asked : IsAskOf c.filter (asks c most) ask
-    pub exchanged : Exchanged P (λ peer. IsAnswered ask (written peer) (given peer) body) (port_of relay bootstrap ask) told told'
+    pub exchanged : Exchanged P (IsAnswered given left written ask body) (port_of relay bootstrap ask) told told'
     pub refused : RefusesReply place c c ask body k k' None None
 
-  -- it broke off: where it had got a reply, and that is true of a timeline, rows and mark that are good for the timeline are so still
-  pub record BreaksOff (c : Held) (k : KeeperState) (told : Option (Told P)) (k' : KeeperState) (told' : Option (Told P)) : Type 0 where
-    pub tried : Tried relay bootstrap told told'
-    pub last : Option (Ask × List ℕ)
+  -- likewise, and its body is a lawful reply, whose commit failed: the keeper is as before it or as after it. Where the reply is true
+  -- of a timeline, rows and mark that are good for the timeline stay so
+  pub record Unstored (c : Held) (k : KeeperState) (told : Option (Told P)) (k' : KeeperState) (told' : Option (Told P)) : Type 0 where
+    pub ask : Ask
+    pub body : List ℕ
+    pub asked : IsAskOf c.filter (asks c most) ask
+    pub exchanged : Exchanged P (IsAnswered given left written ask body) (port_of relay bootstrap ask) told told'
+    pub client : Held
+    pub halts : Halts c client ask body k k' None None
     pub good : (ws : List Span) → IsTimeline ws → HoldsGood ws (test_of c.filter) c.mark k
-        → IfSome last (λ l. AreTrueOf ws (test_of c.filter) (asks c most) l.0 l.1) → KeepsGood ws (test_of c.filter) k'
+        → AreTrueOf ws (test_of c.filter) (asks c most) ask body → KeepsGood ws (test_of c.filter) k'
+
+  -- a poll was made
+  pub record Makes (c : Held) (k : KeeperState) (told : Option (Told P)) (k' : KeeperState) (told' : Option (Told P)) : Type 0 where
+    pub poll : Poll P
+    pub is : IsPoll given left written most c k poll
+    pub keeper : k' ≡ poll.keeper
+    pub linked : told' ≡ option_map (with_exchange (port_of relay bootstrap poll.ask) poll.peer) told
+
+  -- memory ran out before a reply was taken; or behind that, and its line was not written
+  abbrev pub Starved : Held → KeeperState → Option (Told P) → KeeperState → Option (Told P) → Type 0
+  Starved c k told k' told' = (Tried relay bootstrap told told' × SameStore k k') ⊎ Makes c k told k' told'
 
 -- ---- the run
 
@@ -85,7 +101,7 @@ module _ {P : Type 0} (given left written : P → Option (List ℕ)) (words : Co
     pub polls : List (Poll P)
     pub same : SameStore before start
     pub stored : Keeps start mark
-    pub made : Polls given written words.max (opened words.filter mark) start polls c k
+    pub made : Polls given left written words.max (opened words.filter mark) start polls c k
     pub few : length polls ≤ words.polls
     pub linked : told' ≡ option_map (with_polls words.relay words.bootstrap polls) told
     pub good : (ws : List Span) → IsTimeline ws → KeepsGood ws (test_of words.filter) before
@@ -102,15 +118,25 @@ module _ {P : Type 0} (given left written : P → Option (List ℕ)) (words : Co
     pub shown : Shows words.name client.mark after text
     pub wrote : Appends out out' (lines_of ran.mark ran.polls ++ text)
 
-  -- it made these polls, and the line of each was written; then it ended so
+  -- it made these polls, and the line of each was written; then it ended so in the next one
   pub record Stopped (Last : Held → KeeperState → Option (Told P) → KeeperState → Option (Told P) → Type 0)
       (before after : KeeperState) (told told' : Option (Told P)) (out out' : Option (List ℕ)) : Type 0 where
     pub client : Held
     pub keeper : KeeperState
     pub between : Option (Told P)
     pub ran : Ran before told between client keeper
+    pub fewer : length ran.polls + 1 ≤ words.polls
     pub wrote : Appends out out' (lines_of ran.mark ran.polls)
     pub last : Last client keeper between after told'
+
+  -- it made all its polls, and the line of each was written; then it read the keeper, and showed nothing
+  pub record Unshown (before after : KeeperState) (told told' : Option (Told P)) (out out' : Option (List ℕ)) : Type 0 where
+    pub client : Held
+    pub keeper : KeeperState
+    pub ran : Ran before told told' client keeper
+    pub all : length ran.polls ≡ words.polls
+    pub same : SameStore keeper after
+    pub wrote : Appends out out' (lines_of ran.mark ran.polls)
 
   -- it made these polls, and a front was written of their lines and, where they were all, of what was shown then
   pub record Broken (before after : KeeperState) (told told' : Option (Told P)) (out out' : Option (List ℕ)) : Type 0 where
@@ -123,10 +149,9 @@ module _ {P : Type 0} (given left written : P → Option (List ℕ)) (words : Co
     pub count : ℕ
     pub wrote : Appends out out' (take count (lines_of ran.mark ran.polls ++ text))
 
-  -- it ended in want of memory or by a fault of its keeper
-  abbrev pub IsCutOff : KeeperState → KeeperState → Option (Told P) → Option (Told P) → Option (List ℕ) → Option (List ℕ) → Type 0
-  IsCutOff before after told told' out out' = Unopened before after told told' out out'
-      ⊎ Stopped (BreaksOff given left written words.relay words.bootstrap words.max) before after told told' out out'
+  -- it ended so in a poll, before its client was opened, or behind all polls
+  abbrev pub IsCutOff : (Held → KeeperState → Option (Told P) → KeeperState → Option (Told P) → Type 0) → KeeperState → KeeperState → Option (Told P) → Option (Told P) → Option (List ℕ) → Option (List ℕ) → Type 0
+  IsCutOff Last before after told told' out out' = Unopened before after told told' out out' ⊎ (Stopped Last before after told told' out out' ⊎ Unshown before after told told' out out')
 
   -- what it has done when it ends with a status; no other status comes
   abbrev pub Ended : NodeStatus → KeeperState → KeeperState → Option (Told P) → Option (Told P) → Option (List ℕ) → Option (List ℕ) → Type 0
@@ -134,10 +159,10 @@ module _ {P : Type 0} (given left written : P → Option (List ℕ)) (words : Co
   Ended LinkFault before after told told' out out' = Stopped (Unheard given left written words.relay words.bootstrap words.max) before after told told' out out'
   Ended BadAnswer before after told told' out out' = Stopped (Misled given left written words.relay words.bootstrap words.max) before after told told' out out'
   Ended (BadReply place) before after told told' out out' = Stopped (Unlawful given left written words.relay words.bootstrap words.max place) before after told told' out out'
-  Ended StoreFault before after told told' out out' = IsCutOff before after told told' out out'
+  Ended StoreFault before after told told' out out' = IsCutOff (Unstored given left written words.relay words.bootstrap words.max) before after told told' out out'
   Ended BadMark before after told told' out out' = Unopened before after told told' out out' × HasNoMark after
   Ended WriteFault before after told told' out out' = Broken before after told told' out out'
-  Ended NoMemory before after told told' out out' = IsCutOff before after told told' out out'
+  Ended NoMemory before after told told' out out' = IsCutOff (Starved given left written words.relay words.bootstrap words.max) before after told told' out out'
   Ended Usage before after told told' out out' = ⊥
   Ended (BadLine line) before after told told' out out' = ⊥
   Ended ReadFault before after told told' out out' = ⊥

@@ -1,7 +1,7 @@
 ghost use Rattle.std.specs.Prelude.{◌≡◌, ℕ, ◌≤◌, ◌⊎◌, false, OnOk, IsErrOf};
 ghost use Rattle.bus_types.specs.Causes.{Rose};
 ghost use Rattle.client_switch.specs.Client.{Keeps, FloorKept};
-ghost use Rattle.consume_node.specs.Runs.{IsDone, Stopped, Unheard, Misled, Unlawful, IsCutOff, Broken, Unopened, HasNoMark, Ended, opened};
+ghost use Rattle.consume_node.specs.Runs.{IsDone, Stopped, Unheard, Misled, Unlawful, Unstored, Starved, IsCutOff, Broken, Unopened, HasNoMark, Ended, opened};
 ghost use Rattle.consume_node.specs.Failing.{TellsFrom, Turned, Made, end_status};
 
 use crate::poll::{Polling, poll};
@@ -54,10 +54,12 @@ pub fn run_consumer<W: Sink, L: Link, K: Keeper>(
         (L.told link.old) (L.told link.new) (W.written out.old) (W.written out.new) }
     ensures written_so_far { result ≡ NodeStatus.WriteFault → Broken L.Peer.given L.Peer.left L.Peer.written words (K.state keeper.old)
         (K.state keeper.new) (L.told link.old) (L.told link.new) (W.written out.old) (W.written out.new) }
-    ensures stored_so_far { result ≡ NodeStatus.StoreFault → IsCutOff L.Peer.given L.Peer.left L.Peer.written words (K.state keeper.old)
-        (K.state keeper.new) (L.told link.old) (L.told link.new) (W.written out.old) (W.written out.new) }
-    ensures no_memory { result ≡ NodeStatus.NoMemory → IsCutOff L.Peer.given L.Peer.left L.Peer.written words (K.state keeper.old)
-        (K.state keeper.new) (L.told link.old) (L.told link.new) (W.written out.old) (W.written out.new) }
+    ensures stored_so_far { result ≡ NodeStatus.StoreFault → IsCutOff L.Peer.given L.Peer.left L.Peer.written words
+        (Unstored L.Peer.given L.Peer.left L.Peer.written words.relay words.bootstrap words.max) (K.state keeper.old) (K.state keeper.new)
+        (L.told link.old) (L.told link.new) (W.written out.old) (W.written out.new) }
+    ensures no_memory { result ≡ NodeStatus.NoMemory → IsCutOff L.Peer.given L.Peer.left L.Peer.written words
+        (Starved L.Peer.given L.Peer.left L.Peer.written words.relay words.bootstrap words.max) (K.state keeper.old) (K.state keeper.new)
+        (L.told link.old) (L.told link.new) (W.written out.old) (W.written out.new) }
 
     // No other status comes.
     ensures ended { Ended L.Peer.given L.Peer.left L.Peer.written words result (K.state keeper.old) (K.state keeper.new)
@@ -101,12 +103,7 @@ fn run<W: Sink, L: Link, K: Keeper>(
     ensures store_fault { IsErrOf result Stop.StoreFault → Rose (K.state keeper.old).faults (K.state keeper.new).faults }
     ensures floor { FloorKept (K.state keeper.old) (K.state keeper.new) }
 {
-    let by = Polling {
-        relay: words.relay,
-        bootstrap: words.bootstrap,
-        polls: words.polls,
-        max: words.max,
-    };
+    let by = Polling::of(&words);
     let name = words.name;
     let mut client = Client::open(alloc, keeper, words.filter)?;
     make_polls(alloc, &by, &mut client, out, link, keeper)?;

@@ -8,7 +8,7 @@ ghost use Rattle.consume_node.specs.Failing.{TellsFrom, KeepsTrue, Takes, Settle
 
 use crate::stop::Stop;
 use bus_link::Link;
-use bus_node::exchange;
+use bus_node::{ConsumeWords, exchange};
 use bus_stores::Keeper;
 use bus_types::NoMemory;
 use bus_wire::Ask;
@@ -32,6 +32,18 @@ pub(crate) struct Polling {
 }
 
 impl Polling {
+    /// As the words of a consumer say.
+    pub fn of(words: &ConsumeWords) -> Polling
+        ensures { result ≡ record { relay = words.now.relay; bootstrap = words.now.bootstrap; polls = words.now.polls; max = words.now.max } }
+    {
+        Polling {
+            relay: words.relay,
+            bootstrap: words.bootstrap,
+            polls: words.polls,
+            max: words.max,
+        }
+    }
+
     // The port that an ask goes to.
     fn port_of(&self, ask: &Ask) -> u16
         ensures { result ≡ port_of self.now.relay self.now.bootstrap ask.now }

@@ -1,7 +1,7 @@
 use Rattle.std.proofs.Common.{Err, ap}
 use Rattle.std.proofs.lemmas.Result.{err_from_is_err_and}
 use Rattle.consume_node.proofs.Holding.{floor_itself}
-use Rattle.consume_node.proofs.Polling.{breaks_before, exchange_misses, settle_polls}
+use Rattle.consume_node.proofs.Polling.{starved_before, exchange_misses, settle_polls}
 use Rattle.consume_node.proofs.poll.poll.Goals as goal
 
 pub returns-in_err-ask-clause-floor : goal.returns-in_err-ask-clause-floor
@@ -13,7 +13,7 @@ returns-in_err-exchange-clause-floor g c = floor_itself (g.K.Keeper.state c.args
 pub returns-in_err-ask-clause-polled : goal.returns-in_err-ask-clause-polled
 returns-in_err-ask-clause-polled g c =
     let p = err_from_is_err_and c.from_residual.result c.from_residual.ensures.1 in
-    rw (p.1, p.2) (breaks_before _ _ _ _ _ _ c.args.client.now (g.K.Keeper.state c.args.keeper.now) (g.L.Link.told c.args.link.now))
+    rw (p.1, p.2) (starved_before _ _ _ _ _ _ c.args.client.now (g.K.Keeper.state c.args.keeper.now) (g.L.Link.told c.args.link.now))
 
 pub returns-in_err-exchange-clause-polled : goal.returns-in_err-exchange-clause-polled
 returns-in_err-exchange-clause-polled g c =
