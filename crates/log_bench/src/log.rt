@@ -9,6 +9,11 @@ use std::time::Instant;
 pub(crate) fn open<D: Disk + Drop>(alloc: Global, disk: D) -> Option<LogStore<D>> {
     let mut disks = Vec::new(alloc);
     disks.push(disk).ok()?;
+    open_all(alloc, disks)
+}
+
+/// A log over several disks.
+pub(crate) fn open_all<D: Disk + Drop>(alloc: Global, disks: Vec<D>) -> Option<LogStore<D>> {
     if disks.is_empty() || disks.len() > 16 {
         return None;
     }

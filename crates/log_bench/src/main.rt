@@ -1,15 +1,19 @@
 //! The program `log_bench`: appends windows to a log on a file for a time, writes a file that is a segment with many windows, and
 //! opens such a file and reads windows of it. It prints the nanoseconds that the log took, those of each append on a line of its own.
 //! Its words are `append`, a path, the bytes of a window and a time in milliseconds; or `fill`, a path, the bytes of a window and how
-//! many windows; or a path. The file of the first two is made anew. It stands on `log_store`; nothing stands on it.
+//! many windows; or a path. The file of the first two is made anew. With `full`, a folder, the bytes of a window and how many disks it
+//! fills a log over so many new files, opens it again, drops its older half and fills it again. It stands on `log_store`; nothing
+//! stands on it.
 #![tactic(auto)]
 
+mod full;
 mod image;
 mod log;
 mod windows;
 
 use bus_stores::WindowLog;
 use bus_types::read_number;
+use full::full;
 use image::image;
 use log::{append_for, open, read_many};
 use log_disk::{FileDisk, MemoryDisk};
@@ -61,6 +65,7 @@ fn change(
     match form {
         "append" => append(rt, path, size as usize, count),
         "fill" => fill(rt, path, size as usize, count),
+        "full" => full(rt, path, size as usize, count),
         _ => Ok(None),
     }
 }
