@@ -1,5 +1,5 @@
 -- What a lawful reply to an ask of a client is to its mark.
-use Rattle.std.proofs.Common.{◌≡◌, ℕ, ◌<◌, ◌≤◌, max, Bool, true, false, ltb, leb, ◌&&◌, IsTrue, List, [], ◌∷◌, length, true≢false, refl, sym, ap, subst, ◌∙◌, arith}
+use Rattle.std.proofs.Common.{ℕ, ◌<◌, ◌≤◌, max, Bool, true, false, leb, IsTrue, List, [], ◌∷◌, length, true≢false, refl, sym, subst, arith}
 use Rattle.std.specs.List.{AllByRecursion}
 use Rattle.std.proofs.lemmas.Bool.{ltb-true, leb-true, and_parts}
 use Rattle.bus_types.specs.declared.change.Change.{Change}
@@ -24,7 +24,7 @@ use Rattle.bus_wire.specs.Asks.{ask_of}
 use Rattle.bus_wire.specs.Lawful.{IsLawful, IsAnswerTo, IsAskedFor, HoldsRun, HoldsWindows, HoldsRows, HoldsChanges, body_of, after_floor}
 use Rattle.bus_wire.proofs.Reading.{lawful_read}
 use Rattle.dispatcher.specs.Callbacks.{Callback, reply_calls, Describes}
-use Rattle.client_switch.specs.Moves.{Wish, IsWished, question}
+use Rattle.client_switch.specs.Moves.{Wish, question}
 use Rattle.client_switch.specs.Moves.Wish.{NoWish, StartWish, FreshWish}
 use Rattle.client_switch.specs.Client.{IsAskOf}
 use Rattle.client_switch.specs.Turning.{CanAnswer, Follow, CanFollow, CanHold, CanChange, CanCome, HoldsComing}

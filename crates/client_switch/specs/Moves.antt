@@ -1,7 +1,6 @@
 -- How a client moves: what it asks by its mark and its wish, and what a reply makes of them.
-use Rattle.std.specs.Prelude.{ℕ, max, Bool, true, false, if◌then◌else◌, ◌==◌, List, [], ◌∷◌, flat_map}
+use Rattle.std.specs.Prelude.{ℕ, max, Bool, true, false, if◌then◌else◌, ◌==◌, List, [], flat_map}
 use Rattle.bus_types.specs.declared.change.Change.{Change}
-use Rattle.bus_types.specs.declared.row.Cursor.{Cursor}
 use Rattle.bus_types.specs.declared.row.Cursor.TheVariants.{Start as Beginning}
 use Rattle.bus_types.specs.Window.{Span}
 use Rattle.bus_types.specs.Timeline.{end_from}

@@ -1,4 +1,4 @@
-ghost use Rattle.std.specs.Prelude.{◌≡◌, ◌++◌, map, IfOk};
+ghost use Rattle.std.specs.Prelude.{◌≡◌, ◌++◌, [], map, IfOk};
 ghost use Rattle.event_codec.specs.Parsing.{without_events};
 ghost use Rattle.event_codec.specs.Questions.{Reply};
 ghost use Rattle.event_codec.specs.ReplyViews.{Spells};
@@ -25,11 +25,16 @@ fn take_events(
     Ok(())
 }
 
-// The changes of windows, in order.
-fn windows_changes(alloc: Global, windows: &Windows<'_>) -> Result<Vec<Change>, NoMemory>
+// The changes of windows, in order, in this room.
+fn windows_changes(
+    alloc: Global,
+    windows: &Windows<'_>,
+    room: Vec<Change>,
+) -> Result<Vec<Change>, NoMemory>
+    requires { room.items ≡ [] }
     ensures { IfOk result (λ changes. changes.items ≡ changes_of windows.now) }
 {
-    let mut changes = Vec::new(alloc);
+    let mut changes = room;
     let mut left = windows.again();
     take_events(alloc, &mut left, &mut changes)?;
     while let Some(_mark) = left.mark() {
@@ -38,16 +43,30 @@ fn windows_changes(alloc: Global, windows: &Windows<'_>) -> Result<Vec<Change>, 
     Ok(changes)
 }
 
-// The changes of rows or of changes, in order.
-fn run_changes(alloc: Global, run: &Run<'_>) -> Result<Vec<Change>, NoMemory>
+// The changes of rows or of changes, in order, in this room.
+fn run_changes(alloc: Global, run: &Run<'_>, room: Vec<Change>) -> Result<Vec<Change>, NoMemory>
+    requires { room.items ≡ [] }
     ensures { IfOk result (λ changes. changes.items ≡ map (λ e. e.change) run.now) }
 {
-    let mut changes = Vec::new(alloc);
+    let mut changes = room;
     let mut left = run.again();
     while let Some((event, _own)) = left.next() {
         changes.push(event.change(alloc)?)?;
     }
     Ok(changes)
+}
+
+// Room for a change of each window, or for each change, of a reply of that shape.
+fn room_for(alloc: Global, shape: &Shape) -> Result<Vec<Change>, NoMemory>
+    ensures { IfOk result (λ room. room.items ≡ []) }
+{
+    let count = match *shape {
+        Shape::Windows { count, .. } => count,
+        Shape::Rows { count, .. } => count,
+        Shape::Changes { count, .. } => count,
+        Shape::Only(_) => 0,
+    };
+    Ok(Vec::with_capacity(alloc, count as usize)?)
 }
 
 /// The changes of a reply of that shape, in order. Each payload is copied once.
@@ -59,10 +78,11 @@ pub(crate) fn reply_changes(
     requires { (r : Reply) × Spells shape.now bytes.now r }
     ensures { IfOk result (λ changes. (r : Reply) → Spells shape.now bytes.now r → changes.items ≡ items_of r) }
 {
+    let room = room_for(alloc, shape)?;
     match ReplyView::of(shape, bytes) {
-        ReplyView::Windows(windows) => windows_changes(alloc, &windows),
-        ReplyView::Rows { run, .. } => run_changes(alloc, &run),
-        ReplyView::Changes { run, .. } => run_changes(alloc, &run),
-        ReplyView::Only(_) => Ok(Vec::new(alloc)),
+        ReplyView::Windows(windows) => windows_changes(alloc, &windows, room),
+        ReplyView::Rows { run, .. } => run_changes(alloc, &run, room),
+        ReplyView::Changes { run, .. } => run_changes(alloc, &run, room),
+        ReplyView::Only(_) => Ok(room),
     }
 }

@@ -6,9 +6,9 @@ use Rattle.client_switch.proofs.changes.windows_changes.Goals as goal
 
 pub loop-mark-init : goal.loop-mark-init
 loop-mark-init c =
-    let start = ap (λ (x : List Change). x ++ changes_of c.again-left.result) c.new-changes.ensures.items ∙ ap changes_of c.again-left.ensures in
+    let start = ap (λ (x : List Change). x ++ changes_of c.again-left.result) c.requires ∙ ap changes_of c.again-left.ensures in
     record {
-      so_far = events_taken c.new-changes.result.items c.take_events.new.changes.items (changes_of c.args.windows.now) c.again-left.result c.take_events.new.left c.in_ok-take_events.ensures.taken c.in_ok-take_events.ensures.behind start;
+      so_far = events_taken c.args.room.items c.take_events.new.changes.items (changes_of c.args.windows.now) c.again-left.result c.take_events.new.left c.in_ok-take_events.ensures.taken c.in_ok-take_events.ensures.behind start;
       bare = none_left c.again-left.result c.take_events.new.left c.in_ok-take_events.ensures.behind;
     }
 
