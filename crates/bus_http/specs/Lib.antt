@@ -8,6 +8,8 @@ pub mod Replies
 pub mod Asking
 pub mod Talks
 pub mod Sent
+pub mod Pages
+pub mod Responses
 pub mod Turns
 pub mod Answers
 pub mod Receiving
