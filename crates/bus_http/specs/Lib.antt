@@ -9,7 +9,6 @@ pub mod Asking
 pub mod Talks
 pub mod Sent
 pub mod Pages
-pub mod Responses
 pub mod Turns
 pub mod Answers
 pub mod Receiving

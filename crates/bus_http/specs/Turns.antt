@@ -48,15 +48,20 @@ pub record Declining (fault : RequestFault) (old new : Option (List ℕ)) (end :
   pub written : Appends old new said
   pub as_said : DeclinedBy (refusal_of fault) fault said end
 
--- what comes behind an answer that was written: the connection ends where the request asked to close
-abbrev pub ClosesAs : Bool → Option ServeEnd → Type 0
-ClosesAs close None = close ≡ false
-ClosesAs close (Some Closed) = close ≡ true
-ClosesAs close (Some (BadRequest status)) = ⊥
-ClosesAs close (Some ReadFault) = ⊥
-ClosesAs close (Some WriteFault) = ⊥
-ClosesAs close (Some TooMany) = ⊥
-ClosesAs close (Some NoMemory) = ⊥
+-- a reply was said, or a front of it, to a request that asked to close or not
+abbrev pub AnsweredAs : Bool → List ℕ → List ℕ → Option ServeEnd → Type 0
+AnsweredAs close body said None = (close ≡ false) × (said ≡ reply_text body)
+AnsweredAs close body said (Some Closed) = (close ≡ true) × (said ≡ reply_text body)
+AnsweredAs close body said (Some (BadRequest status)) = ⊥
+AnsweredAs close body said (Some ReadFault) = ⊥
+AnsweredAs close body said (Some WriteFault) = IsFront said (reply_text body)
+AnsweredAs close body said (Some TooMany) = ⊥
+AnsweredAs close body said (Some NoMemory) = ⊥
+
+pub record Answering (close : Bool) (body : List ℕ) (old new : Option (List ℕ)) (result : Option ServeEnd) : Type 0 where
+  pub said : List ℕ
+  pub written : Appends old new said
+  pub as_said : AnsweredAs close body said result
 
 module _ {State : Type 0} (side : Side) (may : State → State → Ask → List ℕ → Type 0) (keeps : State → State → Type 0) (sure : Bool) where
   -- a request was answered, and whether the connection ends with that

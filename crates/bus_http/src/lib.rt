@@ -1,8 +1,8 @@
 //! The exchange of asks and replies over HTTP/1.1: requests read from a source, answers and refusals written to a sink, the same from
-//! the side of a client, and `serve_by`, which answers the requests of a connection by what a `Responder` writes, and `serve`, by
-//! the replies that a `Service` puts into a vector. It stands on `bus_io`, `bus_wire`, `partition_filter` and the kit's `httparse`,
-//! `form_urlencoded` and `itoa`. The layers above rely on which ask the first request of some bytes is, and on the talk that a
-//! served connection was.
+//! the side of a client, and `serve`, which answers the requests of a connection by the replies of a `Service`; what writes its
+//! answers itself is served by the same parts, `read_request`, `Page` and `decline`. It stands on `bus_io`, `bus_wire`,
+//! `partition_filter` and the kit's `httparse`, `form_urlencoded` and `itoa`. The layers above rely on which ask the first request
+//! of some bytes is, and on the talk that a served connection was.
 #![tactic(auto)]
 
 mod answer;
@@ -10,7 +10,6 @@ mod asking;
 mod coming;
 mod ending;
 mod fault;
-mod filled;
 mod head;
 mod inbox;
 mod page;
@@ -18,7 +17,6 @@ mod query;
 mod receiving;
 mod reply;
 mod request;
-mod responder;
 mod route;
 mod sending;
 mod service;
@@ -32,8 +30,7 @@ pub use page::Page;
 pub use receiving::read_answer;
 pub use reply::{Refused, append_reply_head, write_refusal, write_reply_head};
 pub use request::{Request, read_request};
-pub use responder::{Responder, Unsent};
 pub use route::Side;
 pub use sending::send_reply;
 pub use service::{ServeEnd, Service, Unanswered};
-pub use serving::{serve, serve_by};
+pub use serving::{MAX_ANSWERS, decline, serve};

@@ -2,22 +2,21 @@ ghost use Rattle.std.specs.Prelude.{◌≡◌, ◌≤◌, true, IfSome};
 ghost use Rattle.bus_types.specs.Causes.{Rose};
 ghost use Rattle.bus_http.specs.Route.{IsAskOf};
 ghost use Rattle.bus_http.specs.Talks.{refusal_of, Served, IsReadEnd, IsWriteEnd};
-ghost use Rattle.bus_http.specs.Turns.{silent_end, Refusing, Declining, ClosesAs, Responding, Turned};
+ghost use Rattle.bus_http.specs.Turns.{silent_end, Refusing, Declining, Answering, Responding, Turned};
 
 use crate::fault::RequestFault;
-use crate::filled::Filled;
 use crate::inbox::Inbox;
+use crate::page::Page;
 use crate::reply::Refused;
 use crate::request::{Request, read_request};
-use crate::responder::{Responder, Unsent};
-use crate::sending::send_refusal;
-use crate::service::{ServeEnd, Service};
+use crate::sending::{send_refusal, send_reply};
+use crate::service::{ServeEnd, Service, Unanswered};
 use bus_io::{Conn, Sink};
 use bus_types::Failed;
 use std::alloc::Global;
 
 /// The most answers of one connection.
-const MAX_ANSWERS: u32 = 1_000_000;
+pub const MAX_ANSWERS: u32 = 1_000_000;
 
 // How a request is refused that is none.
 fn refusal_of(fault: RequestFault) -> Option<Refused>
@@ -57,8 +56,9 @@ fn refuse<W: Sink>(out: &mut W, refused: Refused) -> ServeEnd
     }
 }
 
-// Answers what was read in place of a request, which ends the connection.
-fn decline<W: Sink>(out: &mut W, fault: RequestFault) -> ServeEnd
+/// Answers what was read in place of a request, which ends the connection: by a refusal, or silently after a fault of the source
+/// and want of memory. `WriteFault` comes only where the sink's count rose.
+pub fn decline<W: Sink>(out: &mut W, fault: RequestFault) -> ServeEnd
     ensures declining { Declining fault (W.written out.old) (W.written out.new) result }
     ensures later { W.faults out.old ≤ W.faults out.new }
     ensures risen { IsWriteEnd result → Rose (W.faults out.old) (W.faults out.new) }
@@ -70,11 +70,24 @@ fn decline<W: Sink>(out: &mut W, fault: RequestFault) -> ServeEnd
     }
 }
 
-// How a connection ends behind an answer that was written, where it does.
-fn closing(close: bool) -> Option<ServeEnd>
-    ensures closes { ClosesAs close result }
-    ensures silent { IfSome result (λ end. IsWriteEnd end → ⊥) }
+/// What is gathered for an answer, and used again for the next.
+#[derive(Debug, Drop)]
+struct Room {
+    // The bytes of the reply.
+    body: Vec<u8>,
+    page: Page,
+}
+
+// Writes the reply that stands in the room, and says how the connection ends, where it does.
+fn answer<W: Sink>(out: &mut W, room: &mut Room, close: bool) -> Option<ServeEnd>
+    ensures answering { Answering close room.old.body.items (W.written out.old) (W.written out.new) result }
+    ensures later { W.faults out.old ≤ W.faults out.new }
+    ensures risen { IfSome result (λ end. IsWriteEnd end → Rose (W.faults out.old) (W.faults out.new)) }
+    ensures beside { W.beside out.new ≡ W.beside out.old }
 {
+    let Ok(()) = send_reply(out, &mut room.page, &room.body) else {
+        return Some(ServeEnd::WriteFault);
+    };
     if close {
         return Some(ServeEnd::Closed);
     }
@@ -82,87 +95,49 @@ fn closing(close: bool) -> Option<ServeEnd>
 }
 
 // Answers a request, and says how the connection ends, where it does.
-fn respond<S, A: Responder<S>, W: Sink>(
+fn respond<S: Service, W: Sink>(
     alloc: Global,
-    responder: &mut A,
-    from: &mut S,
+    service: &mut S,
     out: &mut W,
+    room: &mut Room,
     request: &Request,
 ) -> Option<ServeEnd>
-    requires ask { IsAskOf A.side request.now.ask }
-    requires fits { A.fits responder.old from.old }
-    ensures fits { A.fits responder.new from.new }
-    ensures responding { Responding A.side A.may A.keeps A.sure (A.state from.old) (A.state from.new)
+    requires { IsAskOf S.side request.now.ask }
+    ensures responding { Responding S.side S.may S.keeps S.sure (S.state service.old) (S.state service.new)
         request.now (W.written out.old) (W.written out.new) result }
     ensures later { W.faults out.old ≤ W.faults out.new }
     ensures risen { IfSome result (λ end. IsWriteEnd end → Rose (W.faults out.old) (W.faults out.new)) }
     ensures beside { W.beside out.new ≡ W.beside out.old }
 {
-    match responder.respond(alloc, from, &request.ask, out) {
-        Ok(()) => closing(request.close),
-        Err(Unsent::WriteFault) => Some(ServeEnd::WriteFault),
-        Err(Unsent::Failed) => Some(refuse(out, Refused::ServerError)),
-        Err(Unsent::NoMemory) => Some(ServeEnd::NoMemory),
+    room.body.clear();
+    match service.reply(alloc, &request.ask, &mut room.body) {
+        Ok(()) => answer(out, room, request.close),
+        Err(Unanswered::Failed) => Some(refuse(out, Refused::ServerError)),
+        Err(Unanswered::NoMemory) => Some(ServeEnd::NoMemory),
     }
 }
 
 // Reads and answers one request, and says how the connection ends, where it does.
-fn turn<S, A: Responder<S>, C: Conn>(
+fn turn<S: Service, C: Conn>(
     alloc: Global,
-    responder: &mut A,
-    from: &mut S,
+    service: &mut S,
     conn: &mut C,
     inbox: &mut Inbox,
+    room: &mut Room,
 ) -> Option<ServeEnd>
-    requires fits { A.fits responder.old from.old }
-    ensures fits { A.fits responder.new from.new }
-    ensures turned { Turned A.side A.may A.keeps A.sure (A.state from.old) (A.state from.new)
+    ensures turned { Turned S.side S.may S.keeps S.sure (S.state service.old) (S.state service.new)
         (C.given conn.old) (C.given conn.new) (C.left conn.old) (C.left conn.new)
         (C.written conn.old) (C.written conn.new) inbox.old result inbox.new }
     ensures later { (C.Source.faults conn.old ≤ C.Source.faults conn.new) × (C.Sink.faults conn.old ≤ C.Sink.faults conn.new) }
     ensures read { IfSome result (λ end. IsReadEnd end → Rose (C.Source.faults conn.old) (C.Source.faults conn.new)) }
     ensures write { IfSome result (λ end. IsWriteEnd end → Rose (C.Sink.faults conn.old) (C.Sink.faults conn.new)) }
 {
-    let side = responder.side(from);
+    let side = service.side();
     match read_request(alloc, inbox, conn, side) {
         Ok(None) => Some(ServeEnd::Closed),
-        Ok(Some(request)) => respond(alloc, responder, from, conn, &request),
+        Ok(Some(request)) => respond(alloc, service, conn, room, &request),
         Err(fault) => Some(decline(conn, fault)),
     }
-}
-
-/// Answers the requests of a connection, one after another, by the answers that a responder writes. `Closed` comes where the
-/// input ended between two requests, or a request that asked to close was answered; `BadRequest` where a request was refused,
-/// with the status that was written: 400, 404, 405 or 431 by the request, and 500 where the responder failed, which a sure one
-/// doesn't; `ReadFault` and `WriteFault` only where the connection's counts rose; `TooMany` behind the 1,000,000th answer, where
-/// its request didn't ask to close, and then nothing more is read; `NoMemory` where memory ran out.
-pub fn serve_by<S, A: Responder<S>, C: Conn>(
-    alloc: Global,
-    responder: &mut A,
-    from: &mut S,
-    conn: &mut C,
-) -> ServeEnd
-    requires fits { A.fits responder.old from.old }
-    ensures fits { A.fits responder.new from.new }
-    ensures served { Served A.side A.may A.keeps A.sure (A.state from.old) (A.state from.new)
-        (C.given conn.old) (C.given conn.new) (C.left conn.old) (C.left conn.new)
-        (C.written conn.old) (C.written conn.new) result }
-    ensures surely { A.sure ≡ true → result ≡ ServeEnd.BadRequest 500 → ⊥ }
-    ensures later { (C.Source.faults conn.old ≤ C.Source.faults conn.new) × (C.Sink.faults conn.old ≤ C.Sink.faults conn.new) }
-    ensures read { IsReadEnd result → Rose (C.Source.faults conn.old) (C.Source.faults conn.new) }
-    ensures write { IsWriteEnd result → Rose (C.Sink.faults conn.old) (C.Sink.faults conn.new) }
-{
-    let Ok(mut inbox) = Inbox::new(alloc) else {
-        return ServeEnd::NoMemory;
-    };
-    let mut answered = 0;
-    while answered < MAX_ANSWERS {
-        if let Some(end) = turn(alloc, responder, from, conn, &mut inbox) {
-            return end;
-        }
-        answered += 1;
-    }
-    ServeEnd::TooMany
 }
 
 /// Answers the requests of a connection, one after another, by the replies of a service. `Closed` comes where the input ended
@@ -179,6 +154,19 @@ pub fn serve<S: Service, C: Conn>(alloc: Global, service: &mut S, conn: &mut C) 
     ensures read { IsReadEnd result → Rose (C.Source.faults conn.old) (C.Source.faults conn.new) }
     ensures write { IsWriteEnd result → Rose (C.Sink.faults conn.old) (C.Sink.faults conn.new) }
 {
-    let mut filled = Filled::new(alloc);
-    serve_by(alloc, &mut filled, service, conn)
+    let Ok(mut inbox) = Inbox::new(alloc) else {
+        return ServeEnd::NoMemory;
+    };
+    let mut room = Room {
+        body: Vec::new(alloc),
+        page: Page::new(alloc),
+    };
+    let mut answered = 0;
+    while answered < MAX_ANSWERS {
+        if let Some(end) = turn(alloc, service, conn, &mut inbox, &mut room) {
+            return end;
+        }
+        answered += 1;
+    }
+    ServeEnd::TooMany
 }

@@ -7,7 +7,7 @@ use Rattle.bus_http.proofs.serving.turn.Goals as goal
 pub returns-in-Ok-None-clause-turned : goal.returns-in-Ok-None-clause-turned
 returns-in-Ok-None-clause-turned g c =
     let kept = g.met.C.Conn.read_leaves _ _ c.in-Ok-None.ensures.beside in
-    ended_turn g.A.Responder.side g.A.Responder.may g.A.Responder.keeps g.A.Responder.sure _ _ _ _ _ _ _ c.args.inbox.now c.read_request.new.inbox
+    ended_turn g.S.Service.side g.S.Service.may g.S.Service.keeps g.S.Service.sure _ _ _ _ _ _ _ c.args.inbox.now c.read_request.new.inbox
     (saw_found _ _ _ _ _ _ _ _ _ None c.side-side.ensures c.in-Ok-None.field-0-is c.in-Ok-None.ensures.saw) kept.0
 
 pub returns-in-Ok-None-clause-later : goal.returns-in-Ok-None-clause-later
@@ -19,7 +19,7 @@ pub returns-in-Ok-Some-clause-turned : goal.returns-in-Ok-Some-clause-turned
 returns-in-Ok-Some-clause-turned g c =
     let kept = g.met.C.Conn.read_leaves _ _ c.in-Ok-Some.ensures.beside in
     let same = g.met.C.Conn.write_leaves _ _ c.respond.ensures.beside in
-    responded_turn g.A.Responder.side g.A.Responder.may g.A.Responder.keeps g.A.Responder.sure _ _ c.in-Ok-Some.request _ _ _ _ _ _ _ _ _ c.args.inbox.now c.read_request.new.inbox c.respond.result
+    responded_turn g.S.Service.side g.S.Service.may g.S.Service.keeps g.S.Service.sure _ _ c.in-Ok-Some.request _ _ _ _ _ _ _ _ _ c.args.inbox.now c.read_request.new.inbox c.respond.result
     (saw_found _ _ _ _ _ _ _ _ _ (Some c.in-Ok-Some.request) c.side-side.ensures c.in-Ok-Some.field-0-is c.in-Ok-Some.ensures.saw) c.respond.ensures.responding kept.0 same.1 same.0
 
 pub returns-in-Ok-Some-clause-later : goal.returns-in-Ok-Some-clause-later
@@ -37,7 +37,7 @@ pub returns-in-Err-clause-turned : goal.returns-in-Err-clause-turned
 returns-in-Err-clause-turned g c =
     let kept = g.met.C.Conn.read_leaves _ _ c.in-Err.ensures.beside in
     let same = g.met.C.Conn.write_leaves _ _ c.decline.ensures.beside in
-    declined_turn g.A.Responder.side g.A.Responder.may g.A.Responder.keeps g.A.Responder.sure _ c.in-Err.fault _ _ _ _ _ _ _ _ _ c.args.inbox.now c.read_request.new.inbox c.decline.result
+    declined_turn g.S.Service.side g.S.Service.may g.S.Service.keeps g.S.Service.sure _ c.in-Err.fault _ _ _ _ _ _ _ _ _ c.args.inbox.now c.read_request.new.inbox c.decline.result
     (saw_fault _ _ _ _ _ _ _ _ c.in-Err.fault c.side-side.ensures c.in-Err.ensures.saw) c.decline.ensures.declining kept.0 same.1 same.0
 
 pub returns-in-Err-clause-later : goal.returns-in-Err-clause-later
