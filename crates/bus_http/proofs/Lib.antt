@@ -6,6 +6,7 @@ pub mod Firsts
 pub mod Heads
 pub mod Askings
 pub mod Sendings
+pub mod Passings
 pub mod Turnings
 pub mod Servings
 pub mod Lengths

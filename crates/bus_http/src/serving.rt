@@ -6,6 +6,7 @@ ghost use Rattle.bus_http.specs.Turns.{silent_end, Refusing, Declining, Answerin
 
 use crate::fault::RequestFault;
 use crate::inbox::Inbox;
+use crate::page::Page;
 use crate::reply::Refused;
 use crate::request::{Request, read_request};
 use crate::sending::{send_refusal, send_reply};
@@ -15,7 +16,7 @@ use bus_types::Failed;
 use std::alloc::Global;
 
 /// The most answers of one connection.
-const MAX_ANSWERS: u32 = 1_000_000;
+pub const MAX_ANSWERS: u32 = 1_000_000;
 
 // How a request is refused that is none.
 fn refusal_of(fault: RequestFault) -> Option<Refused>
@@ -55,8 +56,9 @@ fn refuse<W: Sink>(out: &mut W, refused: Refused) -> ServeEnd
     }
 }
 
-// Answers what was read in place of a request, which ends the connection.
-fn decline<W: Sink>(out: &mut W, fault: RequestFault) -> ServeEnd
+/// Answers what was read in place of a request, which ends the connection: by a refusal, or silently after a fault of the source
+/// and want of memory. `WriteFault` comes only where the sink's count rose.
+pub fn decline<W: Sink>(out: &mut W, fault: RequestFault) -> ServeEnd
     ensures declining { Declining fault (W.written out.old) (W.written out.new) result }
     ensures later { W.faults out.old ≤ W.faults out.new }
     ensures risen { IsWriteEnd result → Rose (W.faults out.old) (W.faults out.new) }
@@ -73,8 +75,7 @@ fn decline<W: Sink>(out: &mut W, fault: RequestFault) -> ServeEnd
 struct Room {
     // The bytes of the reply.
     body: Vec<u8>,
-    // A whole answer.
-    page: Vec<u8>,
+    page: Page,
 }
 
 // Writes the reply that stands in the room, and says how the connection ends, where it does.
@@ -158,7 +159,7 @@ pub fn serve<S: Service, C: Conn>(alloc: Global, service: &mut S, conn: &mut C) 
     };
     let mut room = Room {
         body: Vec::new(alloc),
-        page: Vec::new(alloc),
+        page: Page::new(alloc),
     };
     let mut answered = 0;
     while answered < MAX_ANSWERS {
