@@ -14,8 +14,6 @@ use Rattle.event_codec.specs.declared.answer.Answer.{Answer}
 use Rattle.event_codec.specs.declared.answer.Answer.TheVariants.{Empty}
 use Rattle.event_codec.specs.declared.reply.Shape.{Shape}
 use Rattle.event_codec.specs.declared.reply.Shape.TheVariants as shapes
-use Rattle.event_codec.specs.Items.{Since}
-use Rattle.event_codec.specs.Streams.{Come, after_window}
 use Rattle.bus_wire.specs.Lawful.{IsLawful, after_floor}
 use Rattle.bus_wire.proofs.Walk.{one_run}
 use Rattle.bus_wire.proofs.Uniqueness.{one_shape, fault_is_unlawful}

@@ -4,7 +4,7 @@ use Rattle.bus_types.specs.Window.{Span}
 use Rattle.partition_filter.specs.Selection.{Selection, test_of}
 use Rattle.bus_stores.specs.Memory.{MemoryStore, new_store, last_mark}
 use Rattle.checkpoint.specs.declared.mark.Mark.{Mark}
-use Rattle.checkpoint.specs.declared.mark.Mark.TheVariants.{Online, Delta, Snapshot, Scanned, Catchup}
+use Rattle.checkpoint.specs.declared.mark.Mark.TheVariants.{Online}
 use Rattle.checkpoint.proofs.ReadBack.{one_mark}
 use Rattle.client_switch.specs.Moves.{Wish, IsWished}
 use Rattle.client_switch.specs.Moves.Wish.{NoWish}

@@ -26,7 +26,6 @@ use Rattle.client_switch.specs.declared.fault.TakeFault.{TakeFault}
 use Rattle.client_switch.specs.declared.fault.TakeFault.TheVariants.{Halted, BadReply, Refused, StoreFault, NoMemory}
 use Rattle.event_codec.specs.Questions.{Reply}
 use Rattle.client_switch.specs.Moves.{Wish, Turn, IsWished, turn}
-use Rattle.client_switch.specs.Moves.Wish.{NoWish}
 use Rattle.client_switch.specs.Good.{Good}
 use Rattle.client_switch.specs.Client.{Held, IsStored, Keeps, IsAskOf, asks, IsReply, move_of_turn, Made, Unmade, TakesIt, RefusesReply, Halts, Takes, CountsKept, OnRefused, HasRefusal, HoldsGood, KeepsGood, AreTrueOf}
 use Rattle.bus_wire.specs.True.{Boot, IsTrueOf}

@@ -1,15 +1,14 @@
 -- What is sent to who asks is lawful, true of the source, and read as the one reply that is defined.
-use Rattle.std.proofs.Common.{◌≡◌, ℕ, ◌+◌, ◌-◌, ◌<◌, ◌≤◌, ◌^◌, max, inl, inr, Bool, true, false, cond, ◌==◌, ◌||◌, nat_lt, nat_le, List, [], ◌∷◌, ◌++◌, length, length-append, refl, sym, ap, subst, ◌∙◌, arith}
-use Rattle.std.specs.Prelude.{Vec, IfOk, Result, Ok, Err}
-use Rattle.std.specs.Global.{Global}
+use Rattle.std.proofs.Common.{◌≡◌, ℕ, ◌+◌, ◌-◌, ◌<◌, ◌≤◌, ◌^◌, inl, inr, Bool, true, false, cond, ◌==◌, ◌||◌, nat_lt, nat_le, List, [], ◌∷◌, length, length-append, refl, sym, ap, subst, ◌∙◌, arith}
+use Rattle.std.specs.Prelude.{OnOk, Result, Ok, Err}
 use Rattle.std.proofs.lemmas.Bool.{cond_both}
 use Rattle.bus_types.specs.declared.fault.NoMemory.{NoMemory}
 use Rattle.event_codec.specs.Reply.{reply_bytes}
 use Rattle.bus_types.specs.declared.change.Change.{Change}
 use Rattle.bus_types.specs.declared.limits.TheConstants.{MAX_SCN}
-use Rattle.bus_types.specs.Change.{changes_size, change_size}
-use Rattle.bus_types.specs.Window.{Span, span_size}
-use Rattle.bus_types.specs.Timeline.{IsTimeline, total_size, end_from, windows_between}
+use Rattle.bus_types.specs.Change.{change_size}
+use Rattle.bus_types.specs.Window.{Span}
+use Rattle.bus_types.specs.Timeline.{total_size, end_from, windows_between}
 use Rattle.bus_types.specs.Rows.{rest_of}
 use Rattle.bus_types.specs.Latest.{last_changes, changes_after}
 use Rattle.bus_types.specs.View.{view}
@@ -18,7 +17,6 @@ use Rattle.bus_types.specs.Relay.{Served, Relay, StandsFor, answer_of, is_place,
 use Rattle.bus_types.specs.Relay.Served.{NotFound as NoWindow, Empty as NothingNew, TooSmall as TooLarge, Windows as SomeWindows}
 use Rattle.bus_types.proofs.Floors.{floor_is, stands_answers}
 use Rattle.partition_filter.specs.Selection.{Selection, test_of}
-use Rattle.event_codec.specs.declared.answer.Answer.{Answer}
 use Rattle.event_codec.specs.declared.answer.Answer.TheVariants.{NotFound, Empty, TooSmall, Behind, LogGone, StartDelta, StartSnapshot, Target as GoTo}
 use Rattle.event_codec.specs.declared.reply.Shape.{Shape}
 use Rattle.event_codec.specs.Bytes.{window_bytes, changes_bytes}
@@ -47,7 +45,7 @@ use Rattle.bus_wire.proofs.Uniqueness.{one_shape}
 use Rattle.checkpoint.specs.declared.mark.Mark.{Mark}
 use Rattle.checkpoint.specs.declared.mark.Mark.TheVariants as marks
 use Rattle.checkpoint.specs.Mark.{IsMark, floor_of}
-use Rattle.client_switch.specs.Moves.{Wish, question, turn, replayed}
+use Rattle.client_switch.specs.Moves.{Wish, question, turn}
 use Rattle.client_switch.specs.Moves.Wish.{NoWish, StartWish, FreshWish}
 use Rattle.trace_script.specs.Printed.{reply_line}
 use Rattle.history_core.specs.Script.{reply_size, reply_text}
@@ -301,11 +299,11 @@ served_bytes (TooLarge n) = refl
 served_bytes (SomeWindows ws) = refl
 
 -- the bytes that a relay sends are those of the reply that is defined
-pub streamed_so : (r : Relay) (boot : Boot) (ask : Ask) (scn : ℕ) (filter : Selection) (most : ℕ) (result : Result (Vec ℕ Global) NoMemory) → ask ≡ ask_of filter (Stream scn most)
-    → IfOk result (λ reply. reply.items ≡ reply_bytes (answer_of r scn (test_of filter) most)) → (B : List Span → Type 0) → IfOk result (λ reply. (ws : List Span) → StandsFor ws r → B ws → reply.items ≡ bytes_of (answered ws r boot ask))
-streamed_so r boot ask scn filter most (Ok reply) is all B = λ ws stands booted.
+pub streamed_so : (r : Relay) (boot : Boot) (ask : Ask) (scn : ℕ) (filter : Selection) (most : ℕ) (result : Result Unit NoMemory) (bytes : List ℕ) → ask ≡ ask_of filter (Stream scn most)
+    → OnOk result (bytes ≡ reply_bytes (answer_of r scn (test_of filter) most)) → (B : List Span → Type 0) → OnOk result ((ws : List Span) → StandsFor ws r → B ws → bytes ≡ bytes_of (answered ws r boot ask))
+streamed_so r boot ask scn filter most (Ok done) bytes is all B = λ ws stands booted.
     all ∙ served_bytes (answer_of r scn (test_of filter) most) ∙ ap (λ (s : Served). bytes_of (reply_of s)) (stands_answers ws r scn (test_of filter) most stands) ∙ ap (λ (a : Ask). bytes_of (answered ws r boot a)) (sym is)
-streamed_so r boot ask scn filter most (Err fault) is all B = tt
+streamed_so r boot ask scn filter most (Err fault) bytes is all B = tt
 
 pub comes_so : (ws : List Span) (r : Relay) (boot : Boot) (most : ℕ) (old : MemberState) (ask : Ask) (bytes : List ℕ) → StandsFor ws r → IsBoot ws boot → IsMember ws old → IsMark old.client.mark → IsAskOf old.client.filter (asks old.client most) ask
     → bytes ≡ bytes_of (answered ws r boot ask) → most < 2 ^ 32 → Comes ws r boot most old ask bytes

@@ -1,6 +1,5 @@
 -- What each line leaves: the defined state and text, and a bus that works.
-use Rattle.std.proofs.Common.{◌≡◌, ℕ, zero, suc, ◌<◌, ◌≤◌, Vec, Result, Ok, Err, Bool, true, false, cond, List, [], ◌∷◌, ◌++◌, length, length-append, get_or, take, ◌==◌, option_map, is_some, Option, Some, None, slice_set, refl, sym, ap, subst, ◌∙◌, arith}
-use Rattle.std.specs.Global.{Global}
+use Rattle.std.proofs.Common.{◌≡◌, ℕ, zero, suc, ◌<◌, ◌≤◌, Bool, true, false, cond, List, [], ◌∷◌, ◌++◌, length, length-append, get_or, take, ◌==◌, option_map, is_some, Option, Some, None, slice_set, refl, sym, ap, subst, ◌∙◌, arith}
 use Rattle.std.specs.List.{AllByRecursion, slice_get}
 use Rattle.std.proofs.lemmas.Bool.{eqb-false, lt-leb}
 use Rattle.std.proofs.lemmas.List.{length-map, map-set, map-append}
@@ -28,10 +27,8 @@ use Rattle.trace_script.specs.declared.line.Line.TheVariants.{Show, Sum}
 use Rattle.trace_script.specs.Printed.{relay_line}
 use Rattle.history_core.specs.Script.{Follower, State, floor, stream_line, shown, summed}
 use Rattle.history_core.specs.Steps.{Step, place_of, at_name, with_consumer, most_consumers, most_commits, new_follower, next_window, fed, replied, after_reply, asked, looked_at, relay_step, consumer_step, commit_step, feed_step, stream_step, poll_step, crash_step, stop_step, show_step, sum_step}
-use Rattle.history_core.specs.declared.fault.StepFault.{StepFault}
-use Rattle.history_core.specs.declared.fault.StepFault.TheVariants.{BadLine, WriteFault, NoMemory}
 use Rattle.history_core.specs.Bus.{MemberState, Parts, follower, followers, boot_numbers, state_of, IsHeaded, IsMember, IsBooted, IsSound, WasCalled, Calls}
-use Rattle.history_core.specs.Acting.{IsWorking, Becomes, Polls, Shows, Sums, Publishes, Acts}
+use Rattle.history_core.specs.Acting.{IsWorking, Becomes, Polls, Shows, Sums, Publishes}
 use Rattle.history_core.specs.Booting.{BootedAt}
 use Rattle.history_core.proofs.Booted.{place_within, place_stays, booted_stays}
 
@@ -78,6 +75,13 @@ window_follows last w p f s = record {
 -- what a relay has published is committed
 pub tail_within : (ws : List Span) (r : Relay) → StandsFor ws r → r.tail ≤ end_of ws
 tail_within ws r h = place_within r.tail ws h.timeline h.tail
+
+-- where no line has come that isn't blank, it has published none
+pub none_published : (b : Parts) → IsSound b → b.begun ≡ false → b.relay.tail ≡ 0
+none_published b h fresh =
+    let within = tail_within b.source b.relay h.relay in
+    let ends : end_of b.source ≡ 0 = ap end_of (h.untouched fresh).0 in
+    omega arith
 
 -- ---- a bus that works
 

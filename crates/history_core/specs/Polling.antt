@@ -1,5 +1,5 @@
 -- For private functions alone: what comes to a consumer that polls.
-use Rattle.std.specs.Prelude.{◌≡◌, ℕ, ◌<◌, ◌^◌, List}
+use Rattle.std.specs.Prelude.{ℕ, List}
 use Rattle.bus_types.specs.Window.{Span}
 use Rattle.bus_types.specs.Relay.{Relay, StandsFor}
 use Rattle.event_codec.specs.Questions.{Reply}

@@ -1,5 +1,5 @@
 -- What each line of a script does to the bus.
-use Rattle.std.specs.Prelude.{ℕ, ◌+◌, min, Bool, true, false, if◌then◌else◌, ◌||◌, nat_lt, nat_le, List, [], ◌∷◌, ◌++◌, length, take, bytes_eq, Option, Some, None, option_map, option_and_then, is_some, slice_get, slice_set}
+use Rattle.std.specs.Prelude.{ℕ, ◌+◌, min, true, if◌then◌else◌, ◌||◌, nat_lt, nat_le, List, [], ◌∷◌, ◌++◌, length, take, bytes_eq, Option, Some, None, option_map, option_and_then, is_some, slice_get, slice_set}
 use Rattle.bus_types.specs.declared.change.Change.{Change}
 use Rattle.bus_types.specs.Change.{Test}
 use Rattle.bus_types.specs.Window.{Span, window_fault}

@@ -5,6 +5,7 @@ ghost use Rattle.partition_filter.specs.Selection.{test_of};
 ghost use Rattle.bus_stores.specs.Memory.{stop_at};
 ghost use Rattle.trace_script.specs.declared.line.Line.{Line};
 ghost use Rattle.trace_script.specs.Spelling.{is_in_range};
+ghost use Rattle.source_db.specs.Queue.{waiting};
 ghost use Rattle.history_core.specs.Script.{start};
 ghost use Rattle.history_core.specs.Steps.{Step, begin, place_of, relay_step, consumer_step, commit_step, gen_step, last_generated, feed_step, log_step, apply_step, trim_step, restart_step, stream_step, poll_step, crash_step, stop_step, show_step, sum_step};
 ghost use Rattle.history_core.specs.Run.{is_blank, effect, act, line_step};
@@ -21,7 +22,7 @@ use bus_stores::MemoryKeeper;
 use bus_types::{Changes, NoMemory, Window, copy_changes};
 use partition_filter::Filter;
 use relay_core::{Buffer, relay_answer};
-use source_db::SourceDb;
+use source_db::CommitQueue;
 use std::alloc::Global;
 use std::marker::Model;
 use trace_script::{Line, Name, gap_line, relay_line};
@@ -42,12 +43,14 @@ const LAST_GENERATED: u64 = 9_223_372_036_854_475_807;
 #[derive(Debug, Drop)]
 pub struct Bus<B: Buffer + Drop> {
     begun: bool,
-    source: SourceDb,
+    source: CommitQueue,
     relay: B,
     boot: MemoryBoot,
     members: Vec<Member>,
     /// Empty, with room for each consumer's keeper.
     room: Vec<MemoryKeeper>,
+    /// The bytes of the last reply, so that the next one need not take its memory anew.
+    reply: Vec<u8>,
 }
 
 impl<B: Buffer + Drop> Model for Bus<B> {
@@ -57,9 +60,9 @@ impl<B: Buffer + Drop> Model for Bus<B> {
 
     ghost Value = { Parts };
 
-    ghost view = { λ b. record { begun = b.begun; source = b.source; relay = B.relay b.relay; boot = b.boot; members = b.members.items } };
+    ghost view = { λ b. record { begun = b.begun; source = b.source.windows; relay = B.relay b.relay; boot = b.boot; members = b.members.items } };
 
-    ghost invariant = { λ b. (b.room.items ≡ []) × (length b.members.items ≤ vec_capacity b.room) };
+    ghost invariant = { λ b. (b.room.items ≡ []) × (length b.members.items ≤ vec_capacity b.room) × (b.source.passed ≡ (B.relay b.relay).tail) };
 }
 
 impl<B: Buffer + Drop> Bus<B> {
@@ -75,11 +78,12 @@ impl<B: Buffer + Drop> Bus<B> {
     {
         Ok(Bus {
             begun: false,
-            source: SourceDb::new(alloc),
+            source: CommitQueue::new(alloc),
             relay: B::new(alloc, bytes, windows)?,
             boot: new_boot(alloc)?,
             members: Vec::new(alloc),
             room: Vec::new(alloc),
+            reply: Vec::new(alloc),
         })
     }
 
@@ -306,8 +310,7 @@ impl<B: Buffer + Drop> Bus<B> {
         requires { IsSound self.old }
         ensures { Acts result (feed_step (state_of self.old) count) self.old self.new }
     {
-        let next = first(self.source.windows_after(self.relay.tail()), count);
-        publish(alloc, &mut self.relay, next)?;
+        publish(alloc, &mut self.relay, &mut self.source, count)?;
         Ok(relay_line(alloc, self.relay.floor(), self.relay.tail())?.into_bytes())
     }
 
@@ -381,7 +384,7 @@ impl<B: Buffer + Drop> Bus<B> {
             return Err(StepFault::BadLine);
         };
         let member = &mut self.members[i];
-        Ok(member.poll(alloc, &self.relay, &mut self.boot, max)?)
+        Ok(member.poll(alloc, &self.relay, &mut self.boot, max, &mut self.reply)?)
     }
 
     // A consumer's client is opened again.
@@ -460,24 +463,26 @@ fn place(members: &[Member], name: &[u8]) -> Option<usize>
     None
 }
 
-// The first so many windows, or those there are.
-fn first(windows: &[Window], count: u64) -> &[Window]
-    ensures { result.now ≡ take count windows.now }
+// The relay publishes the next so many windows of a source, or those there are, which follow its newest one: the source lets
+// each go.
+fn publish<B: Buffer>(
+    alloc: Global,
+    relay: &mut B,
+    source: &mut CommitQueue,
+    count: u64,
+) -> Result<(), NoMemory>
+    requires at { source.old.passed ≡ (B.relay relay.old).tail }
+    requires follow { IsTimelineFrom (B.relay relay.old).tail (take count (waiting source.old)) }
+    ensures publishes { OnOk result (Publishes (take count (waiting source.old)) (B.relay relay.old) (B.relay relay.new)) }
+    ensures commits { source.new.windows ≡ source.old.windows }
+    ensures at { source.new.passed ≡ (B.relay relay.new).tail }
 {
-    if count < windows.len() as u64 {
-        &windows[..count as usize]
-    } else {
-        windows
-    }
-}
-
-// The relay publishes windows that follow each other and its newest one.
-fn publish<B: Buffer>(alloc: Global, relay: &mut B, windows: &[Window]) -> Result<(), NoMemory>
-    requires { IsTimelineFrom (B.relay relay.old).tail windows.now }
-    ensures { OnOk result (Publishes windows.now (B.relay relay.old) (B.relay relay.new)) }
-{
-    for window in windows {
+    for _i in 0..count {
+        let Some(window) = source.next() else {
+            return Ok(());
+        };
         relay.publish(alloc, window)?;
+        source.pass();
     }
     Ok(())
 }

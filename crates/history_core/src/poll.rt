@@ -29,51 +29,55 @@ use partition_filter::Filter;
 use relay_core::{Buffer, relay_answer};
 use std::alloc::Global;
 
-// Room for the bytes of a reply of a few windows, so that a short one grows but once.
-const REPLY_ROOM: usize = 1_024;
-
-// The bytes of the relay's reply to who asks for windows.
+// The bytes of the relay's reply to who asks for windows, in place of what there was.
 fn streamed<B: Buffer>(
     alloc: Global,
     relay: &B,
     scn: u64,
     filter: &Filter,
     max: u32,
-) -> Result<Vec<u8>, NoMemory>
-    ensures { IfOk result (λ reply. reply.items ≡ reply_bytes (answer_of (B.relay relay.now) scn (test_of filter.now) max)) }
+    reply: &mut Vec<u8>,
+) -> Result<(), NoMemory>
+    ensures { OnOk result (reply.new.items ≡ reply_bytes (answer_of (B.relay relay.now) scn (test_of filter.now) max)) }
 {
-    let mut reply = Vec::with_capacity(alloc, REPLY_ROOM)?;
-    relay_answer(alloc, relay, scn, filter, max, &mut reply)?;
-    Ok(reply)
+    reply.clear();
+    relay_answer(alloc, relay, scn, filter, max, reply)?;
+    Ok(())
 }
 
-// The bytes of the reply to an ask: the relay's to who asks for windows, and else the bootstrap's.
+// The bytes of the reply to an ask, in place of what there was: the relay's to who asks for windows, and else the
+// bootstrap's.
 fn answer<B: Buffer>(
     alloc: Global,
     relay: &B,
     boot: &mut MemoryBoot,
     ask: &Ask,
-) -> Result<Vec<u8>, NoMemory>
+    reply: &mut Vec<u8>,
+) -> Result<(), NoMemory>
     requires { (ws : List Span) × IsTimeline ws × IsBooted ws boot.old }
-    ensures reply { IfOk result (λ reply. (ws : List Span) → StandsFor ws (B.relay relay.now) → IsBooted ws boot.old
-        → reply.items ≡ bytes_of (answered ws (B.relay relay.now) (boot_numbers boot.old) ask.now)) }
+    ensures reply { OnOk result ((ws : List Span) → StandsFor ws (B.relay relay.now) → IsBooted ws boot.old
+        → reply.new.items ≡ bytes_of (answered ws (B.relay relay.now) (boot_numbers boot.old) ask.now)) }
     ensures boot { OnOk result ((ws : List Span) → IsTimeline ws → IsBooted ws boot.old → BootedAt ws (boot_numbers boot.old) boot.new) }
 {
     match ask {
-        Ask::Stream { scn, filter, max } => streamed(alloc, relay, *scn, filter, *max),
-        _ => boot::answer(alloc, boot, ask),
+        Ask::Stream { scn, filter, max } => streamed(alloc, relay, *scn, filter, *max, reply),
+        _ => {
+            *reply = boot::answer(alloc, boot, ask)?;
+            Ok(())
+        }
     }
 }
 
 impl Member {
-    /// One ask of the relay or of the bootstrap, and what is made of the reply: at most one commit. The text is what it
-    /// prints. After want of memory neither it nor the bootstrap is used again.
+    /// One ask of the relay or of the bootstrap, and what is made of the reply, whose bytes take the place of those before:
+    /// at most one commit. The text is what it prints. After want of memory neither it nor the bootstrap is used again.
     pub fn poll<B: Buffer>(
         &mut self,
         alloc: Global,
         relay: &B,
         boot: &mut MemoryBoot,
         max: u32,
+        reply: &mut Vec<u8>,
     ) -> Result<Vec<u8>, NoMemory>
         requires { (ws : List Span) × StandsFor ws (B.relay relay.now) × IsBooted ws boot.old × IsMember ws self.old }
         ensures polls { IfOk result (λ text. (ws : List Span) → StandsFor ws (B.relay relay.now) → IsBooted ws boot.old
@@ -81,8 +85,8 @@ impl Member {
         ensures boot { OnOk result ((ws : List Span) → IsTimeline ws → IsBooted ws boot.old → BootedAt ws (boot_numbers boot.old) boot.new) }
     {
         let ask = self.ask(alloc, max)?;
-        let reply = answer(alloc, relay, boot, &ask)?;
-        self.follow(alloc, &ask, &reply)
+        answer(alloc, relay, boot, &ask, reply)?;
+        self.follow(alloc, &ask, reply)
     }
 
     // What its client asks.

@@ -6,7 +6,7 @@ use Rattle.history_core.proofs.bus.Bus.declare.Goals as goal
 
 pub returns : goal.returns
 returns g c =
-    let b : Parts = record { begun = c.self.inside.begun; source = c.self.inside.source; relay = g.B.Buffer.relay c.self.inside.relay; boot = c.self.inside.boot; members = c.self.inside.members.items } in
+    let b : Parts = record { begun = c.self.inside.begun; source = c.self.inside.source.windows; relay = g.B.Buffer.relay c.self.inside.relay; boot = c.self.inside.boot; members = c.self.inside.members.items } in
     let h : IsSound b = subst IsSound (sym c.self.view_is) c.requires in
     let m = c.in_ok-new.field-0 in
     let new = c.in_ok-new.ensures b.source in

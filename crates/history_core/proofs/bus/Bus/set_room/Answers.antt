@@ -5,7 +5,7 @@ use Rattle.history_core.proofs.bus.Bus.set_room.Goals as goal
 
 pub returns : goal.returns
 returns g c =
-    let b : Parts = record { begun = c.self.inside.begun; source = c.self.inside.source; relay = g.B.Buffer.relay c.self.inside.relay; boot = c.self.inside.boot; members = c.self.inside.members.items } in
+    let b : Parts = record { begun = c.self.inside.begun; source = c.self.inside.source.windows; relay = g.B.Buffer.relay c.self.inside.relay; boot = c.self.inside.boot; members = c.self.inside.members.items } in
     let h : IsSound b = subst IsSound (sym c.self.view_is) c.requires.sound in
     let r = g.B.Buffer.relay c.in_ok-self-inside.field-0 in
     let fresh = c.if-self.false in

@@ -5,7 +5,7 @@ use Rattle.history_core.proofs.bus.Bus.show.Goals as goal
 
 pub returns-clause-acts : goal.returns-clause-acts
 returns-clause-acts g c =
-    let b : Parts = record { begun = c.self.inside.begun; source = c.self.inside.source; relay = g.B.Buffer.relay c.self.inside.relay; boot = c.self.inside.boot; members = c.self.inside.members.items } in
+    let b : Parts = record { begun = c.self.inside.begun; source = c.self.inside.source.windows; relay = g.B.Buffer.relay c.self.inside.relay; boot = c.self.inside.boot; members = c.self.inside.members.items } in
     let h : IsSound b = subst IsSound (sym c.self.view_is) c.requires in
     let m = c.index_mut-member.result.now in
     let found = found_at b.members c.deref.result.now c.args.name.now c.bytes.result.now c.in-Some.i m c.deref.ensures.value c.bytes.ensures.value c.in-Some.ensures.place c.in-Some.ensures.within c.index_mut-member.ensures.value in
@@ -13,7 +13,7 @@ returns-clause-acts g c =
 
 pub returns-clause-calls : goal.returns-clause-calls
 returns-clause-calls g c =
-    let b : Parts = record { begun = c.self.inside.begun; source = c.self.inside.source; relay = g.B.Buffer.relay c.self.inside.relay; boot = c.self.inside.boot; members = c.self.inside.members.items } in
+    let b : Parts = record { begun = c.self.inside.begun; source = c.self.inside.source.windows; relay = g.B.Buffer.relay c.self.inside.relay; boot = c.self.inside.boot; members = c.self.inside.members.items } in
     let h : IsSound b = subst IsSound (sym c.self.view_is) c.requires in
     let m = c.index_mut-member.result.now in
     let found = found_at b.members c.deref.result.now c.args.name.now c.bytes.result.now c.in-Some.i m c.deref.ensures.value c.bytes.ensures.value c.in-Some.ensures.place c.in-Some.ensures.within c.index_mut-member.ensures.value in

@@ -1,4 +1,4 @@
-use Rattle.std.proofs.Common.{arith, sym, ◌∙◌}
+use Rattle.std.proofs.Common.{arith, ◌∙◌}
 use Rattle.bus_stores.specs.Memory.{last_mark}
 use Rattle.history_core.specs.Bus.{boot_numbers}
 use Rattle.history_core.proofs.Polling.{stored_is_mark, polls_so}
@@ -19,7 +19,7 @@ follow-requires g c =
       boot_numbers c.args.boot.now,
       c.args.max,
       comes_so ws r (boot_numbers c.args.boot.now) c.args.max c.args.self.now c.in_ok-ask.ask c.deref.result.now c.requires.1 c.requires.2.stands.lawful member mark c.in_ok-ask.ensures
-          (c.deref.ensures.value ∙ c.in_ok-reply.ensures.reply ws c.requires.1 c.requires.2) (omega arith),
+          (c.deref.ensures.value ∙ c.in_ok-answer.ensures.reply ws c.requires.1 c.requires.2) (omega arith),
     )
 
 pub returns-clause-polls : goal.returns-clause-polls
@@ -30,4 +30,4 @@ returns-clause-polls g c =
     polls_so r c.args.boot.now c.args.max old c.follow.new.self c.in_ok-ask.ask c.deref.result.now c.follow.result c.follow.ensures
     (λ ws stands booted member.
     comes_so ws r boot c.args.max old c.in_ok-ask.ask c.deref.result.now stands booted.stands.lawful member (stored_is_mark (last_mark old.store.marks) old.client.mark member.stored) c.in_ok-ask.ensures
-    (c.deref.ensures.value ∙ c.in_ok-reply.ensures.reply ws stands booted) (omega arith))
+    (c.deref.ensures.value ∙ c.in_ok-answer.ensures.reply ws stands booted) (omega arith))
