@@ -4,3 +4,4 @@ pub mod Turns
 pub mod Placed
 pub mod Answering
 pub mod Promise
+pub mod Starts

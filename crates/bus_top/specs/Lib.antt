@@ -3,3 +3,4 @@ pub mod Trace
 pub mod Turns
 pub mod Headline
 pub mod Status
+pub mod Nodes
