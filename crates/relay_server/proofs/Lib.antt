@@ -1,0 +1,4 @@
+pub mod Puttings
+pub mod Bounds
+pub mod Streams
+pub mod Behind
