@@ -9,6 +9,7 @@ use bus_link::TcpLink;
 use bus_stores::MemoryKeeper;
 use bus_top::{NodeStatus, Outside, Status, node, trace};
 use std::process::ExitCode;
+use std::sync::Wait;
 use std::{env, fmt, io, mem};
 
 /// The words that begin the command of a node.
@@ -23,7 +24,7 @@ fn main(rt: HostRuntime) -> ExitCode {
         }
     };
     if is_node(&words) {
-        let status = run_node(&rt, &words);
+        let status = run_node(&rt, &rt, &words);
         ended(&rt, status.number(), &status)
     } else {
         let status = run_trace(&rt, &words);
@@ -50,7 +51,7 @@ fn run_trace(rt: &HostRuntime, words: &[String]) -> Status {
     status
 }
 
-fn run_node(rt: &HostRuntime, words: &[String]) -> NodeStatus {
+fn run_node(rt: &HostRuntime, lock: &impl Wait, words: &[String]) -> NodeStatus {
     let Ok(keeper) = MemoryKeeper::new(rt.alloc(), &[]) else {
         return NodeStatus::NoMemory;
     };
@@ -60,7 +61,7 @@ fn run_node(rt: &HostRuntime, words: &[String]) -> NodeStatus {
         link: TcpLink::new(rt),
         keeper,
     };
-    let (status, _) = node(rt, rt.alloc(), words, outside);
+    let (status, _) = node(lock, rt.alloc(), words, outside);
     status
 }
 
