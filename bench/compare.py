@@ -1,8 +1,8 @@
 #!/usr/bin/env python3
 """Times `databus trace` beside the plain program of plain.rs on the same scripts, in turn, and prints the ratios.
 
-compare.py [--runs 7]
-A ratio above 1 means that databus takes less processor time. Both must print the same bytes. It builds plain.rs by
+compare.py [--runs 7] [--generated]
+With --generated it runs scripts with the lines gen and sum instead. A ratio above 1 means that databus takes less processor time. Both must print the same bytes. It builds plain.rs by
 `rustc -O` in a folder of its own, and times the built program crates/databus/out/databus.
 """
 import argparse
@@ -46,6 +46,22 @@ WORKLOADS = {
 }
 
 
+def load(count, filters):
+    lines = ["relay 16777216 65536"] + [f"consumer c{i} {f}" for i, f in enumerate(filters)]
+    for _ in range(count // 50_000):
+        lines += ["gen 7 50000", "feed 50000"]
+        lines += [f"poll c{i} 16777216" for i in range(len(filters)) for _ in range(1563)]
+    return "\n".join(lines + [f"sum c{i}" for i in range(len(filters))]) + "\n"
+
+
+def generated():
+    return {
+        "100,000 generated windows, one consumer": load(100_000, ["all"]),
+        "1,000,000 generated windows, one consumer": load(1_000_000, ["all"]),
+        "200,000 generated windows, 8 consumers of an eighth": load(200_000, EIGHTH),
+    }
+
+
 PROGRAM = Path(__file__).resolve().parent.parent / "crates/databus/out/databus"
 
 
@@ -72,6 +88,7 @@ def run(program, text):
 def main():
     words = argparse.ArgumentParser()
     words.add_argument("--runs", type=int, default=7)
+    words.add_argument("--generated", action="store_true")
     words = words.parse_args()
     if not PROGRAM.exists():
         sys.exit("build the program first: (cd crates/databus && rt run -- trace < ../../examples/first.databus)")
@@ -80,7 +97,7 @@ def main():
     subprocess.run(["rustc", "--edition=2021", "-O", "-C", "panic=abort", "-o", plain, Path(__file__).with_name("plain.rs")], check=True)
     print(processor())
     print(f"{'processor time, the least of ' + str(words.runs):54} {'databus s':>10} {'plain s':>9} {'ratio':>6}")
-    for name, text in WORKLOADS.items():
+    for name, text in (generated() if words.generated else WORKLOADS).items():
         text = text.encode()
         ours, theirs = [], []
         for _ in range(words.runs):
