@@ -1,6 +1,7 @@
 -- What a ring answers, by positions.
 use Rattle.std.specs.Prelude.{◌≡◌, ◌⊎◌, ℕ, ◌<◌, ◌≤◌, List, take, drop, Option, Some, None}
 use Rattle.std.specs.List.{slice_get}
+use Rattle.bus_types.specs.declared.limits.TheConstants.{MAX_SCN}
 use Rattle.bus_types.specs.Change.{Test}
 use Rattle.bus_types.specs.Window.{Span}
 use Rattle.bus_types.specs.Timeline.{end_of}
@@ -49,6 +50,12 @@ abbrev pub IsMissed : Option (List Span) → ℕ → ℕ → ℕ → Miss → Ty
 IsMissed timeline evicted published scn (misses.NotFound floor) = (scn < floor) × (evicted < published) × IsBefore timeline evicted floor
 IsMissed timeline evicted published scn (misses.Empty tail) = (tail ≤ scn) × ((evicted < published) ⊎ (published ≡ 0)) × IsBefore timeline published tail
 IsMissed timeline evicted published scn misses.Again = Unit {0}
+
+-- its number is an SCN, or 0
+abbrev pub HasScn : Miss → Type 0
+HasScn (misses.NotFound floor) = floor ≤ MAX_SCN
+HasScn (misses.Empty tail) = tail ≤ MAX_SCN
+HasScn misses.Again = Unit {0}
 
 -- that none was found is this answer of the relay
 abbrev pub Misses : Miss → Served → Type 0

@@ -1,5 +1,6 @@
 -- What a pass finds when it opens a ring after an SCN.
 use Rattle.std.specs.Prelude.{◌≡◌, ℕ, ◌<◌, ◌≤◌, List, Option}
+use Rattle.bus_types.specs.declared.limits.TheConstants.{MAX_SCN, MAX_WINDOW}
 use Rattle.bus_types.specs.Change.{Test}
 use Rattle.bus_types.specs.Window.{Span}
 use Rattle.bus_types.specs.Cut.{cuts}
@@ -15,3 +16,10 @@ Opens timeline pass scn test max filter (opened.Range range) = (range.filter ≡
 Opens timeline pass scn test max filter (opened.NotFound floor) = (scn < floor) × IsAnswer timeline pass scn test max (NotFound floor)
 Opens timeline pass scn test max filter (opened.Empty tail) = (tail ≤ scn) × IsAnswer timeline pass scn test max (Empty tail)
 Opens timeline pass scn test max filter (opened.TooSmall need) = (max < need) × IsAnswer timeline pass scn test max (TooSmall need)
+
+-- its number is an SCN or 0, or the size of a window, also where no timeline is told
+abbrev pub IsWithin : {T F : Type 0} → Opened T F → Type 0
+IsWithin (opened.Range range) = Unit {0}
+IsWithin (opened.NotFound floor) = floor ≤ MAX_SCN
+IsWithin (opened.Empty tail) = tail ≤ MAX_SCN
+IsWithin (opened.TooSmall need) = need ≤ MAX_WINDOW

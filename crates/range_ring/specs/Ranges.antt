@@ -1,11 +1,12 @@
 -- What a pass opens: entries of a ring that are read in place.
-use Rattle.std.specs.Prelude.{◌≡◌, ℕ, ◌+◌, ◌<◌, ◌≤◌, List, [], ◌∷◌, length, Option, Some, None}
+use Rattle.std.specs.Prelude.{◌≡◌, ℕ, ◌+◌, ◌<◌, ◌≤◌, List, [], ◌∷◌, length, map, Option, Some, None}
+use Rattle.bus_types.specs.declared.change.Change.{Change}
 use Rattle.bus_types.specs.Change.{Test}
 use Rattle.bus_types.specs.Window.{Span, IsSpan, span_size}
 use Rattle.bus_types.specs.Timeline.{total_size}
 use Rattle.bus_types.specs.Cut.{cut, cuts}
 use Rattle.bus_types.specs.Relay.{Served, most_windows}
-use Rattle.event_codec.specs.Bytes.{window_bytes}
+use Rattle.event_codec.specs.Bytes.{Event, window_bytes}
 use Rattle.ring_cells.specs.Entries.{Held, IsAt}
 use Rattle.range_ring.specs.Belonging.{PassIs}
 use Rattle.range_ring.specs.Answering.{answer_at}
@@ -44,6 +45,10 @@ IsAnswer None pass scn test max served = Unit {0}
 IsAnswer (Some windows) pass scn test max served = served ≡ answer_at windows pass.evicted pass.published scn test max
 
 -- ---- the code's words
+
+-- the changes of events
+abbrev pub changes_of : List Event → List Change
+changes_of events = map (λ e. e.change) events
 
 -- the window at a position, with what is there already, is too large
 pub record IsTooLarge (timeline : Option (List Span)) (position : ℕ) (test : Test) (max size : ℕ) : Type 0 where

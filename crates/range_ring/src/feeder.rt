@@ -67,6 +67,8 @@ impl<T: Timeline> Feeder<T> {
     pub fn numbers(&self) -> Numbers
         ensures value { result ≡ record { evicted = self.now.evicted; published = self.now.published } }
         ensures told { IsEvicted self.now.home.limits T.told self.now.published self.now.evicted }
+        ensures order { result.evicted ≤ result.published }
+        ensures bound { result.published ≤ 2 ^ 63 }
     {
         Numbers {
             evicted: self.stock.evicted(),

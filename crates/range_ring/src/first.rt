@@ -1,4 +1,5 @@
 ghost use Rattle.std.specs.Prelude.{ℕ, List, length, Some, ◌≡◌, ◌≤◌, ◌+◌, ◌^◌, ◌<◌, IfSome, IfOk, IfErr};
+ghost use Rattle.bus_types.specs.declared.limits.TheConstants.{MAX_SCN};
 ghost use Rattle.bus_types.specs.Change.{Test};
 ghost use Rattle.bus_types.specs.Window.{Span};
 ghost use Rattle.bus_types.specs.Timeline.{IsTimeline};
@@ -6,7 +7,7 @@ ghost use Rattle.bus_types.specs.Cut.{cuts};
 ghost use Rattle.bus_types.specs.Relay.{fitting};
 ghost use Rattle.ring_cells.specs.Entries.{Held};
 ghost use Rattle.range_ring.specs.declared.first.Miss.{Miss};
-ghost use Rattle.range_ring.specs.Answering.{IsBefore, IsFirst, IsMissed, Misses, answer_at, windows_from};
+ghost use Rattle.range_ring.specs.Answering.{IsBefore, IsFirst, IsMissed, HasScn, Misses, answer_at, windows_from};
 
 use crate::claim::{claim, scns};
 use crate::numbers::Numbers;
@@ -27,7 +28,8 @@ pub(crate) enum Miss {
 
 // The SCN before a position at which a window stands.
 fn scn_before<T: Timeline>(ring: &Ring<T>, position: u64) -> Option<u64>
-    ensures { IfSome result (λ scn. IsBefore T.told position scn) }
+    ensures before { IfSome result (λ scn. IsBefore T.told position scn) }
+    ensures within { IfSome result (λ scn. scn ≤ MAX_SCN) }
 {
     let shown = claim(ring, position)?;
     Some(scns(&shown).1)
@@ -35,7 +37,8 @@ fn scn_before<T: Timeline>(ring: &Ring<T>, position: u64) -> Option<u64>
 
 // The SCN before the position behind one at which a window stands.
 fn scn_past<T: Timeline>(ring: &Ring<T>, position: u64) -> Option<u64>
-    ensures { IfSome result (λ scn. IsBefore T.told (position + 1) scn) }
+    ensures before { IfSome result (λ scn. IsBefore T.told (position + 1) scn) }
+    ensures within { IfSome result (λ scn. scn ≤ MAX_SCN) }
 {
     let shown = claim(ring, position)?;
     Some(scns(&shown).0)
@@ -63,14 +66,57 @@ fn narrow<'r, T: Timeline>(ring: &'r Ring<T>, numbers: &Numbers, scn: u64) -> Op
     None
 }
 
-/// Claims the first window after an SCN among those that were published and not evicted.
+// Claims the window at a position where it is the first one after an SCN among those between two positions.
+fn first_at<'r, T: Timeline>(
+    ring: &'r Ring<T>,
+    numbers: &Numbers,
+    scn: u64,
+    position: u64,
+) -> Option<Shown<'r, T>>
+    ensures { IfSome result (λ shown. IsFirst T.told numbers.now.evicted numbers.now.published scn shown) }
+{
+    let Numbers { evicted, published } = *numbers;
+    if position < evicted {
+        return None;
+    }
+    if published <= position {
+        return None;
+    }
+    let shown = claim(ring, position)?;
+    let (own, prev) = scns(&shown);
+    if prev <= scn && scn < own {
+        return Some(shown);
+    }
+    None
+}
+
+/// Claims the first window after an SCN among those that were published and not evicted. It looks at a position first at which
+/// that window likely stands, and then for it among all.
 pub(crate) fn first_after<'r, T: Timeline>(
+    ring: &'r Ring<T>,
+    numbers: &Numbers,
+    scn: u64,
+    likely: u64,
+) -> Result<Shown<'r, T>, Miss>
+    ensures found { IfOk result (λ shown. IsFirst T.told numbers.now.evicted numbers.now.published scn shown) }
+    ensures missed { IfErr result (λ miss. IsMissed T.told numbers.now.evicted numbers.now.published scn miss) }
+    ensures within { IfErr result HasScn }
+{
+    if let Some(shown) = first_at(ring, numbers, scn, likely) {
+        return Ok(shown);
+    }
+    search(ring, numbers, scn)
+}
+
+// Claims the first window after an SCN among those that were published and not evicted.
+fn search<'r, T: Timeline>(
     ring: &'r Ring<T>,
     numbers: &Numbers,
     scn: u64,
 ) -> Result<Shown<'r, T>, Miss>
     ensures found { IfOk result (λ shown. IsFirst T.told numbers.now.evicted numbers.now.published scn shown) }
     ensures missed { IfErr result (λ miss. IsMissed T.told numbers.now.evicted numbers.now.published scn miss) }
+    ensures within { IfErr result HasScn }
 {
     if numbers.published == 0 {
         return Err(Miss::Empty(0));

@@ -1,6 +1,6 @@
 ghost use Rattle.std.specs.Prelude.{◌≡◌};
 ghost use Rattle.range_ring.specs.Answering.{IsLawful, HasLooked};
-ghost use Rattle.range_ring.specs.Opening.{Opens};
+ghost use Rattle.range_ring.specs.Opening.{Opens, IsWithin};
 
 use crate::first::Miss;
 use crate::pass::Pass;
@@ -40,11 +40,15 @@ impl<T: Timeline> Pass<T> {
         ensures looked { HasLooked self.old self.new }
         ensures lawful { IsLawful T.told self.new }
         ensures opened { Opens T.told self.new scn (F.test filter.now) max filter.now result }
+        ensures within { IsWithin result }
     {
         for _ in rt.forever() {
             match self.first_after(rt, ring, scn) {
                 Ok(first) => match gather(ring, first, filter, self.seen().published, max as u64) {
-                    Some(Ok(range)) => return Opened::Range(range),
+                    Some(Ok(range)) => {
+                        self.went_on(range.past());
+                        return Opened::Range(range);
+                    }
                     Some(Err(need)) => return Opened::TooSmall { need },
                     None => thread::yield_now(),
                 },

@@ -1,7 +1,7 @@
 ghost use Rattle.std.specs.Prelude.{◌≡◌, ◌+◌, ◌≤◌, ◌≢◌, max, [], MatchOption, IfOk, IfErr};
 ghost use Rattle.range_ring.specs.Words.{IsSeen};
 ghost use Rattle.range_ring.specs.declared.first.Miss.TheVariants.{Again};
-ghost use Rattle.range_ring.specs.Answering.{IsFirst, IsMissed, IsLawful, HasLooked};
+ghost use Rattle.range_ring.specs.Answering.{IsFirst, IsMissed, HasScn, IsLawful, HasLooked};
 ghost use Rattle.range_ring.specs.Belonging.{RingIs, Sits, fresh_pass};
 
 use crate::first::{Miss, first_after};
@@ -23,6 +23,8 @@ pub struct Pass<T: Timeline> {
     place: Place,
     evicted: u64,
     published: u64,
+    // The position behind the windows that it opened last, at which the next ones that it opens likely begin.
+    likely: u64,
     timeline: PhantomData<T>,
 }
 
@@ -86,6 +88,7 @@ impl<T: Timeline> Pass<T> {
             place,
             evicted: 0,
             published: 0,
+            likely: 0,
             timeline: PhantomData,
         }
     }
@@ -135,6 +138,13 @@ impl<T: Timeline> Pass<T> {
         Numbers { evicted, published }
     }
 
+    /// Keeps the position behind the windows that it opens, of which contracts see nothing.
+    pub(crate) fn went_on(&mut self, position: u64)
+        ensures { self.new ≡ self.old }
+    {
+        self.likely = position;
+    }
+
     /// Claims the first window after an SCN, or tells why there is none, at numbers that it loads. It looks again, and so
     /// may wait, where the ring went on meanwhile.
     pub(crate) fn first_after<'r, R: Wait>(
@@ -148,10 +158,11 @@ impl<T: Timeline> Pass<T> {
         ensures lawful { IsLawful T.told self.new }
         ensures found { IfOk result (λ shown. IsFirst T.told self.new.evicted self.new.published scn shown) }
         ensures missed { IfErr result (λ miss. (miss ≢ Again) × IsMissed T.told self.new.evicted self.new.published scn miss) }
+        ensures within { IfErr result HasScn }
     {
         for _ in rt.forever() {
             let numbers = self.look(ring);
-            match first_after(ring, &numbers, scn) {
+            match first_after(ring, &numbers, scn, self.likely) {
                 Ok(shown) => return Ok(shown),
                 Err(Miss::NotFound(floor)) => return Err(Miss::NotFound(floor)),
                 Err(Miss::Empty(tail)) => return Err(Miss::Empty(tail)),

@@ -1,10 +1,11 @@
-ghost use Rattle.std.specs.Prelude.{◌≡◌, ◌<◌, ◌+◌, ◌^◌, List, ◌++◌, ◌∷◌, [], length, drop, MatchOption, IfSome, IfOk, IfErr};
+ghost use Rattle.std.specs.Prelude.{◌≡◌, ◌<◌, ◌≤◌, ◌+◌, ◌^◌, List, ◌++◌, ◌∷◌, [], length, drop, MatchOption, IfSome, IfOk, IfErr};
+ghost use Rattle.bus_types.specs.declared.limits.TheConstants.{MAX_WINDOW};
 ghost use Rattle.bus_types.specs.Window.{Span};
 ghost use Rattle.event_codec.specs.Parsing.{AreWindows};
 ghost use Rattle.range_ring.specs.Ranges.{IsGathered, IsSmall};
 ghost use Rattle.range_ring.specs.Parts.{bytes_at, IsPlace, IsPart};
 
-use crate::claim::claim;
+use crate::claim::{cell_of, claim_in, next_cell};
 use crate::claims::Claims;
 use crate::cutting::cut_size;
 use crate::part::{Part, part_of};
@@ -64,6 +65,15 @@ impl<'r, T: Timeline, F: Accepts> Range<'r, T, F> {
         self.claims.count()
     }
 
+    /// The position behind that of its last window. Contracts see nothing of it.
+    pub(crate) fn past(&self) -> u64 {
+        let last = self.count().saturating_sub(1);
+        match self.claims.get(last) {
+            Some(shown) => shown.position().saturating_add(1),
+            None => 0,
+        }
+    }
+
     /// The bytes that the filter leaves of them.
     pub fn size(&self) -> u64
         ensures { result ≡ self.now.size }
@@ -112,6 +122,7 @@ pub(crate) fn gather<'r, T: Timeline, F: Accepts>(
     requires { first.position < published }
     ensures range { IfSome result (λ r. IfOk r (λ range. (range.filter ≡ filter.now) × IsGathered T.told first.entry.position published (F.test filter.now) max range.entries range.size)) }
     ensures small { IfSome result (λ r. IfErr r (λ need. IsSmall T.told first.entry.position (F.test filter.now) max need)) }
+    ensures within { IfSome result (λ r. IfErr r (λ need. need ≤ MAX_WINDOW)) }
 {
     let mut position = first.position() + 1;
     let size = cut_size(&first, filter);
@@ -119,13 +130,15 @@ pub(crate) fn gather<'r, T: Timeline, F: Accepts>(
         return Some(Err(size));
     }
     let mut range = Range::new(first, filter, size);
+    let mut cell = cell_of(ring, position);
     while range.count() < 32 && position < published {
-        let shown = claim(ring, position)?;
+        let shown = claim_in(ring, cell, position)?;
         let more = cut_size(&shown, filter);
         if more > max - range.size {
             return Some(Ok(range));
         }
         range.push(shown, more);
+        cell = next_cell(ring, cell);
         position += 1;
     }
     Some(Ok(range))

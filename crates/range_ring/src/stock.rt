@@ -45,14 +45,16 @@ impl Stock {
 
     /// How many windows were evicted.
     pub fn evicted(&self) -> u64
-        ensures { result ≡ self.now.evicted }
+        ensures value { result ≡ self.now.evicted }
+        ensures order { result ≤ self.now.published }
     {
         self.evicted
     }
 
     /// How many windows were published.
     pub fn published(&self) -> u64
-        ensures { result ≡ self.now.published }
+        ensures value { result ≡ self.now.published }
+        ensures bound { result ≤ 2 ^ 63 }
     {
         self.published
     }

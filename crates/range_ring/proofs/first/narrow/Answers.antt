@@ -4,8 +4,8 @@ use Rattle.range_ring.proofs.first.narrow.Goals as goal
 pub returns-then-scn-own : goal.returns-then-scn-own
 returns-then-scn-own g c =
     let entry = c.in_ok-shown.ensures.entry in
-    let own : c.scns-own.result.0 ≡ entry.window.scn = ap (λ x. x.0) (c.scns-own.ensures entry) in
-    let prev : c.scns-own.result.1 ≡ entry.window.prev = ap (λ x. x.1) (c.scns-own.ensures entry) in
+    let own : c.scns-own.result.0 ≡ entry.window.scn = ap (λ x. x.0) (c.scns-own.ensures.value entry) in
+    let prev : c.scns-own.result.1 ≡ entry.window.prev = ap (λ x. x.1) (c.scns-own.ensures.value entry) in
     let place = c.in_ok-shown.ensures.position in
     let some = c.loop-low-test.true in
     let below = c.if-prev-scn.true in
