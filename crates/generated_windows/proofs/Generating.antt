@@ -1,5 +1,6 @@
 -- Windows that are made from a number: they are within the limits of windows, and are made one part after the other.
-use Rattle.std.proofs.Common.{◌≡◌, ℕ, zero, suc, ◌+◌, ◌-◌, ◌*◌, ◌%◌, ◌<◌, ◌≤◌, Bool, true, false, cond, eqb, List, [], ◌∷◌, ◌++◌, append-nil, append_assoc, length, Some, None, refl, sym, ap, subst, ◌∙◌, arith}
+use Rattle.std.proofs.Common.{◌≡◌, ℕ, zero, suc, ◌+◌, ◌-◌, ◌*◌, ◌%◌, ◌<◌, ◌≤◌, Bool, true, false, cond, eqb, List, [], ◌∷◌, ◌++◌, append-nil, append_assoc, length, take, set, Some, None, refl, sym, ap, subst, ◌∙◌, arith}
+use Rattle.std.proofs.lemmas.List.{take_all, take_more_set}
 use Rattle.std.proofs.lemmas.Bool.{or_from, ne_eqb, le-ltb, lt-leb}
 use Rattle.bus_types.specs.declared.change.Change.{Change}
 use Rattle.bus_types.specs.declared.window.WindowFault.{WindowFault}
@@ -15,21 +16,28 @@ pub bytes_long : (first n : ℕ) → length (bytes_from first n) ≡ n
 bytes_long first zero = refl
 bytes_long first (suc n) = ap suc (bytes_long (first + 1) n)
 
--- a byte was appended, and the others are still to be
-pub bytes_more : (first j count : ℕ) (out all : List ℕ) → j < count → out ++ bytes_from (first + j) (count - j) ≡ all → (out ++ (first + j) % 256 ∷ []) ++ bytes_from (first + (j + 1)) (count - (j + 1)) ≡ all
-bytes_more first j count out all lt e =
-    let more : count - j ≡ suc (count - (j + 1)) = omega arith in
-    let next : (first + j) + 1 ≡ first + (j + 1) = omega arith in
-    append_assoc out ((first + j) % 256 ∷ []) (bytes_from (first + (j + 1)) (count - (j + 1)))
-    ∙ ap (λ n. out ++ (first + j) % 256 ∷ bytes_from n (count - (j + 1))) (sym next)
-    ∙ ap (λ n. out ++ bytes_from (first + j) n) (sym more)
-    ∙ e
+-- one more byte at the end
+bytes_last : (first n : ℕ) → bytes_from first (suc n) ≡ bytes_from first n ++ (first + n) % 256 ∷ []
+bytes_last first zero = let same : first ≡ first + 0 = omega arith in ap (λ m. m % 256 ∷ []) same
+bytes_last first (suc n) =
+    let next : (first + 1) + n ≡ first + suc n = omega arith in
+    ap (λ bs. first % 256 ∷ bs) (bytes_last (first + 1) n ∙ ap (λ m. bytes_from (first + 1) n ++ m % 256 ∷ []) next)
+
+-- a byte was written behind those that were
+pub bytes_more : (first j : ℕ) (bytes : List ℕ) → j < length bytes → take j bytes ≡ bytes_from first j → take (j + 1) (set bytes j ((first + j) % 256)) ≡ bytes_from first (j + 1)
+bytes_more first j bytes lt done =
+    let one : suc j ≡ j + 1 = omega arith in
+    take_more_set bytes j ((first + j) % 256) lt ∙ ap (λ bs. bs ++ (first + j) % 256 ∷ []) done ∙ sym (bytes_last first j) ∙ ap (bytes_from first) one
 
 -- all were
-pub bytes_all : (first j count : ℕ) (out all : List ℕ) → count ≤ j → out ++ bytes_from (first + j) (count - j) ≡ all → out ≡ all
-bytes_all first j count out all past e =
-    let none : count - j ≡ 0 = omega arith in
-    sym (append-nil out) ∙ ap (λ n. out ++ bytes_from (first + j) n) (sym none) ∙ e
+pub bytes_all : (first j : ℕ) (bytes : List ℕ) → j ≡ 64 → length bytes ≡ 64 → take j bytes ≡ bytes_from first j → bytes ≡ bytes_from first 64
+bytes_all first j bytes end long done = sym (take_all 64 bytes (omega (arith, long))) ∙ ap (λ n. take n bytes) (sym end) ∙ done ∙ ap (bytes_from first) end
+
+-- the first ones
+pub bytes_front : (first n m : ℕ) → n ≤ m → take n (bytes_from first m) ≡ bytes_from first n
+bytes_front first zero m le = refl
+bytes_front first (suc n) zero le = let none : ⊥ = omega (arith, le) in absurd none
+bytes_front first (suc n) (suc m) le = ap (λ bs. first % 256 ∷ bs) (bytes_front (first + 1) n m (omega (arith, le)))
 
 -- ---- changes
 

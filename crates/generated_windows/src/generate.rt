@@ -15,7 +15,7 @@ ghost use Rattle.generated_windows.specs.Generated.{
   after_window,
 };
 
-use bus_types::{Change, Key, NoMemory, Payload, Window};
+use bus_types::{Change, Key, NoMemory, Payload, PayloadFault, Window};
 use std::alloc::Global;
 
 /// Why there was no window: memory ran out.
@@ -40,17 +40,30 @@ fn draw(state: &mut u32) -> u32
     *state / 65_536
 }
 
+// 64 bytes: the last byte of a number, and then each one more than the one before it.
+fn rising(first: u32) -> [u8; 64]
+    requires { first < 2 ^ 16 }
+    ensures { result ≡ bytes_from first 64 }
+{
+    let mut bytes = [0; 64];
+    for j in 0..64 {
+        bytes[j] = ((first + j as u32) % 256) as u8;
+    }
+    bytes
+}
+
 // So many bytes, from the last byte of a number on, each one more than the one before it.
 fn payload(alloc: Global, first: u32, count: u32) -> Result<Payload, NoMemory>
     requires first { first < 2 ^ 16 }
     requires count { count ≤ 64 }
     ensures { IfOk result (λ payload. payload ≡ bytes_from first count) }
 {
-    let mut bytes = Vec::with_capacity(alloc, count as usize)?;
-    for j in 0..count {
-        bytes.push(((first + j) % 256) as u8)?;
+    let bytes = rising(first);
+    match Payload::new(alloc, &bytes[..count as usize]) {
+        Ok(payload) => Ok(payload),
+        Err(PayloadFault::NoMemory) => Err(NoMemory),
+        Err(PayloadFault::TooLong) => unreachable!(),
     }
-    Payload::from_vec(bytes).ok_or(NoMemory)
 }
 
 // What two draws put, if they put anything.

@@ -1,5 +1,6 @@
-use Rattle.generated_windows.proofs.Generating.{bytes_more}
+use Rattle.std.proofs.Common.{◌∙◌, take, ap}
+use Rattle.generated_windows.proofs.Generating.{bytes_front}
 use Rattle.generated_windows.proofs.generate.payload.Goals as goal
 
-pub loop-j-preserved : goal.loop-j-preserved
-loop-j-preserved c = rw c.in_ok-push.ensures.items (bytes_more c.args.first c.loop-j.j c.args.count c.loop-j.bytes.items _ c.loop-j-test.true c.loop-j.invariant)
+pub returns-in-Ok : goal.returns-in-Ok
+returns-in-Ok c = c.in-Ok.ensures.ok ∙ ap (take c.args.count) c.rising-bytes.ensures ∙ bytes_front c.args.first c.args.count 64 c.requires.count
