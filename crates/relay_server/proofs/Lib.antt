@@ -1,4 +1,3 @@
 pub mod Puttings
-pub mod Bounds
 pub mod Streams
 pub mod Behind

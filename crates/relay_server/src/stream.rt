@@ -17,7 +17,7 @@ ghost use Rattle.relay_server.specs.Shared.{SendsReply};
 
 use bus_http::{Page, send_reply};
 use bus_io::Sink;
-use bus_types::{Failed, MAX_SCN, Timeline};
+use bus_types::{Failed, Timeline};
 use event_codec::{Answer, answer_bytes};
 use partition_filter::Filter;
 use range_ring::{Opened, Pass, Range, Ring};
@@ -116,14 +116,6 @@ fn send_range<T: Timeline, W: Sink>(
     Ok(())
 }
 
-// A number of an answer, which is one that an answer has.
-fn within(number: u64) -> u64
-    ensures within { result ≤ MAX_SCN }
-    ensures same { number ≤ MAX_SCN → result ≡ number }
-{
-    number.min(MAX_SCN)
-}
-
 // Writes a reply of no windows.
 fn send_answer<W: Sink>(page: &mut Page, answer: &Answer, out: &mut W) -> Result<(), Failed>
     requires { answer_number answer.now ≤ MAX_SCN }
@@ -157,8 +149,8 @@ pub(crate) fn send_stream<T: Timeline, R: Wait, W: Sink>(
 {
     match pass.open(rt, ring, scn, filter, max) {
         Opened::Range(range) => send_range(page, range, out),
-        Opened::NotFound { floor } => send_answer(page, &Answer::NotFound(within(floor)), out),
-        Opened::Empty { tail } => send_answer(page, &Answer::Empty(within(tail)), out),
-        Opened::TooSmall { need } => send_answer(page, &Answer::TooSmall(within(need)), out),
+        Opened::NotFound { floor } => send_answer(page, &Answer::NotFound(floor), out),
+        Opened::Empty { tail } => send_answer(page, &Answer::Empty(tail), out),
+        Opened::TooSmall { need } => send_answer(page, &Answer::TooSmall(need), out),
     }
 }
