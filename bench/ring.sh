@@ -1,7 +1,9 @@
 #!/bin/bash
-# Times readers that open a shared ring, read every byte of what they opened and end, while one feeder publishes, and the same
-# readers of a buffer behind a lock, which copies what they read: windows a second that all readers read together, the best of
-# three runs. Build it first: (cd crates/ring_bench && rt run)
+# Times readers of a shared ring, which open, read every byte of what they opened where it stands, and end, while one feeder
+# publishes; and the same readers of a buffer behind a lock. Those copy what they are served under the lock and read their copy
+# outside, as a server has to, which can't hold a lock while it writes to a connection. Readers begin 128 windows apart, read
+# eight bytes at a time, go on where they stopped, and begin again above the floor where they fell behind it. It prints how many
+# windows a second all readers read together, the best of three runs. Build it first: (cd crates/ring_bench && rt run)
 set -euo pipefail
 cd "$(dirname "$0")/.."
 program=crates/ring_bench/out/ring_bench

@@ -49,7 +49,7 @@ fn publish(alloc: Global, buffer: &mut PlainBuffer, window: &Window) -> Option<(
 }
 
 // Asks so often for what stands behind an SCN, reads every byte of it, and goes on behind it. Where that isn't kept
-// any more, it goes on 512 windows above the floor, so that the feeder doesn't overtake it at once.
+// any more, it goes on above the floor.
 fn read<R: Wait + Clock>(
     rt: &R,
     alloc: Global,
@@ -59,7 +59,7 @@ fn read<R: Wait + Clock>(
     let start = Instant::now(rt)?;
     let mut read = Reading::new();
     let mut reply = Vec::new(alloc);
-    let mut scn: u64 = 0;
+    let mut scn = load.from;
     for _ in 0..load.asks {
         read.asks = read.asks.wrapping_add(1);
         let served = serve(alloc, &shared.lock(rt), scn, &mut reply)?;
@@ -68,8 +68,8 @@ fn read<R: Wait + Clock>(
                 read.add(count as u64, sum_of(&reply));
                 scn.saturating_add(count as u64)
             }
-            Served::NotFound(floor) => floor.saturating_add(512),
-            Served::Empty(_) | Served::TooSmall(_) => 0,
+            Served::NotFound(floor) => load.above(floor),
+            Served::Empty(_) | Served::TooSmall(_) => load.from,
         };
     }
     read.nanoseconds = nanoseconds(start.elapsed(rt)?);
@@ -95,10 +95,11 @@ fn read_two<R: Threads + Wait + Clock + Sync>(
     shared: &Mutex<PlainBuffer>,
     load: Load,
 ) -> io::Result<Reading> {
+    let later = load.later(1);
     let (left, right) = thread::join(
         rt,
         || read(rt, alloc, shared, load),
-        || read(rt, alloc, shared, load),
+        || read(rt, alloc, shared, later),
     );
     both(left, right)
 }
@@ -115,10 +116,11 @@ fn read_all<R: Threads + Wait + Clock + Sync>(
         1 => read(rt, alloc, shared, load),
         2 => read_two(rt, alloc, shared, load),
         4 => {
+            let later = load.later(2);
             let (left, right) = thread::join(
                 rt,
                 || read_two(rt, alloc, shared, load),
-                || read_two(rt, alloc, shared, load),
+                || read_two(rt, alloc, shared, later),
             );
             both(left, right)
         }

@@ -29,6 +29,29 @@ pub(crate) struct Load {
     pub windows: u64,
     /// How often each reader asks.
     pub asks: u64,
+    /// The SCN behind which a reader begins.
+    pub from: u64,
+}
+
+// How many windows apart readers begin, so that they read other windows at the same time.
+const APART: u64 = 128;
+
+impl Load {
+    /// The load of the reader that begins so many readers later.
+    pub fn later(&self, readers: u64) -> Load {
+        Load {
+            payload: self.payload,
+            windows: self.windows,
+            asks: self.asks,
+            from: self.from.saturating_add(readers.saturating_mul(APART)),
+        }
+    }
+
+    /// Where a reader goes on that asked for windows up to this floor: 512 windows above it, so that the feeder doesn't
+    /// overtake it at once, and as far apart from the other readers as at the beginning.
+    pub fn above(&self, floor: u64) -> u64 {
+        floor.saturating_add(512).saturating_add(self.from)
+    }
 }
 
 fn main(rt: HostRuntime) -> io::Result<()> {
@@ -56,6 +79,7 @@ fn race_of<R: Threads + Wait + Clock + Sync>(
                 payload: number(bytes)?.saturating_sub(40),
                 windows: number(windows)?,
                 asks: number(asks)?,
+                from: 0,
             };
             race(rt, alloc, form, number(readers)?, load)
         }
@@ -77,6 +101,7 @@ fn tiny<R: Threads + Wait + Clock + Sync>(rt: &R, alloc: Global) -> io::Result<R
         payload: 60,
         windows: 2000,
         asks: 100,
+        from: 0,
     };
     let shared = race_shared(rt, alloc, 1, load)?;
     let locked = race_locked(rt, alloc, 1, load)?;

@@ -47,10 +47,14 @@ pub(crate) fn both(one: io::Result<Reading>, other: io::Result<Reading>) -> io::
     Ok(one?.with(other?))
 }
 
-/// The sum of bytes, modulo 2^64.
+/// The sum of bytes, modulo 2^64: of the numbers of eight each, and of the last ones that are no eight.
 pub(crate) fn sum_of(bytes: &[u8]) -> u64 {
+    let (words, rest) = bytes.as_chunks::<8>();
     let mut sum: u64 = 0;
-    for byte in bytes {
+    for word in words {
+        sum = sum.wrapping_add(u64::from_le_bytes(*word));
+    }
+    for byte in rest {
         sum = sum.wrapping_add(*byte as u64);
     }
     sum

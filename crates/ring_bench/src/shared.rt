@@ -95,7 +95,7 @@ fn entry(alloc: Global, prev: u64, payload: u64) -> Option<Entry<Untold>>
 }
 
 // Opens so often what stands behind an SCN, reads every byte of it, and goes on behind it. Where that isn't kept
-// any more, it goes on 512 windows above the floor, so that the feeder doesn't overtake it at once.
+// any more, it goes on above the floor.
 fn read<R: Wait + Clock>(
     rt: &R,
     ring: &Ring<Untold>,
@@ -106,7 +106,7 @@ fn read<R: Wait + Clock>(
 {
     let start = Instant::now(rt)?;
     let mut read = Reading::new();
-    let mut scn: u64 = 0;
+    let mut scn = load.from;
     for _ in 0..load.asks {
         read.asks = read.asks.wrapping_add(1);
         scn = match pass.open(rt, ring, scn, &Everything, MOST_BYTES) {
@@ -115,8 +115,8 @@ fn read<R: Wait + Clock>(
                 read.add(count, sum_of_range(&range));
                 scn.saturating_add(count)
             }
-            Opened::NotFound { floor } => floor.saturating_add(512),
-            Opened::Empty { .. } | Opened::TooSmall { .. } => 0,
+            Opened::NotFound { floor } => load.above(floor),
+            Opened::Empty { .. } | Opened::TooSmall { .. } => load.from,
         };
     }
     read.nanoseconds = nanoseconds(start.elapsed(rt)?);
@@ -134,10 +134,11 @@ fn read_two<R: Threads + Wait + Clock + Sync>(
     requires one { one.old.home ≡ ring.now }
     requires other { other.old.home ≡ ring.now }
 {
+    let later = load.later(1);
     let (left, right) = thread::join(
         rt,
         || read(rt, ring, one, load),
-        || read(rt, ring, other, load),
+        || read(rt, ring, other, later),
     );
     both(left, right)
 }
@@ -157,6 +158,7 @@ fn read_four<R: Threads + Wait + Clock + Sync>(
     requires three { three.old.home ≡ ring.now }
     requires four { four.old.home ≡ ring.now }
 {
+    let later = load.later(2);
     let (left, right) = thread::join(
         rt,
         move ||
@@ -166,7 +168,7 @@ fn read_four<R: Threads + Wait + Clock + Sync>(
         move ||
             requires three { three.now.home ≡ ring.now }
             requires four { four.now.home ≡ ring.now }
-        { read_two(rt, ring, three, four, load) },
+        { read_two(rt, ring, three, four, later) },
     );
     both(left, right)
 }
