@@ -5,5 +5,4 @@ pub mod Making
 pub mod Moving
 pub mod Pushing
 pub mod Running
-pub mod Sizing
 pub mod Standing

@@ -1,4 +1,4 @@
 pub mod Kept
 pub mod Parts
-pub mod Sizes
+pub mod Runs
 pub mod Slots

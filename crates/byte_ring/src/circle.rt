@@ -100,6 +100,7 @@ impl Circle {
     }
 
     // The number of two bytes at a place.
+    #[cold]
     #[tactic(auto, using(event_codec::proofs::Numbers::numbers))]
     fn short(&self, at: usize) -> u16
         requires { at + 2 ≤ length self.now.bytes }
@@ -110,6 +111,7 @@ impl Circle {
     }
 
     // The number of four bytes at a place.
+    #[cold]
     #[tactic(auto, using(event_codec::proofs::Numbers::numbers))]
     fn word(&self, at: usize) -> u32
         requires { at + 4 ≤ length self.now.bytes }
@@ -125,6 +127,7 @@ impl Circle {
     }
 
     // The number of eight bytes at a place, byte by byte.
+    #[cold]
     #[tactic(auto, using(event_codec::proofs::Numbers::numbers))]
     fn long(&self, at: usize) -> u64
         requires { at + 8 ≤ length self.now.bytes }
@@ -156,6 +159,7 @@ impl Circle {
     }
 
     /// What stands in the head of an event at a place: its source, its key, and the length of its payload.
+    #[inline(always)]
     #[tactic(auto, using(crate::proofs::Standing::head_whole))]
     pub fn head(&self, at: usize) -> (u16, u64, u32)
         requires { at + 23 ≤ length self.now.bytes }

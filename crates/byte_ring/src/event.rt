@@ -20,6 +20,7 @@ pub(crate) struct Placed {
 }
 
 /// The event that begins at a place.
+#[inline(always)]
 pub(crate) fn event_at(circle: &Circle, at: usize) -> Placed
     requires { at + 23 ≤ length circle.now.bytes }
     ensures { (e : Event) (rest : List ℕ) → drop at circle.now.bytes ≡ event_bytes e ++ rest → IsEvent e → IsPlaced result e }

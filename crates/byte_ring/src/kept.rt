@@ -176,10 +176,11 @@ impl Kept {
         (self.circle.len() - behind as usize, slot)
     }
 
-    // The SCN of the window at a place in their order.
-    fn scn(&self, i: usize) -> u64
+    /// The SCN of the window at a place in their order.
+    pub fn scn(&self, i: usize) -> u64
         requires { i < length self.now.windows }
-        ensures { end_from self.now.floor (take (i + 1) self.now.windows) ≡ result }
+        ensures end { end_from self.now.floor (take (i + 1) self.now.windows) ≡ result }
+        ensures range { result ≤ MAX_SCN }
     {
         let (at, slot) = self.window(i);
         scn_at(&self.circle, at, slot)

@@ -171,10 +171,10 @@ fn serve_from<F: Accepts, W: Sink>(
         return Ok(Served::TooSmall(need));
     }
     let run = longest_run(kept, from, filter, max);
-    send_windows(kept, from, run.count, &run.sizes, filter, out)?;
+    let bytes = send_windows(kept, from, run.count, filter, out)?;
     Ok(Served::Windows {
         count: run.count,
         last: run.last,
-        bytes: run.bytes,
+        bytes,
     })
 }

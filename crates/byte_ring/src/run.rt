@@ -1,9 +1,10 @@
-ghost use Rattle.std.specs.Prelude.{◌≡◌, ◌≤◌, length, drop, [], if◌then◌else◌};
-ghost use Rattle.bus_types.specs.Cut.{cut_size, cuts};
-ghost use Rattle.bus_types.specs.Relay.{longest_run, most_windows};
-ghost use Rattle.plain_buffer.specs.Run.{Tells};
+ghost use Rattle.std.specs.Prelude.{◌≡◌, ◌+◌, ◌≤◌, ◌<◌, length, take, IfSome, if◌then◌else◌};
+ghost use Rattle.bus_types.specs.Change.{Test};
+ghost use Rattle.bus_types.specs.Cut.{cut_size};
+ghost use Rattle.bus_types.specs.Relay.{most_windows};
+ghost use Rattle.bus_types.specs.Timeline.{end_from};
 ghost use Rattle.byte_ring.specs.Parts.{WindowAt};
-ghost use Rattle.byte_ring.specs.Sizes.{AreSizes};
+ghost use Rattle.byte_ring.specs.Runs.{IsRun};
 
 use crate::circle::Circle;
 use crate::event::{Placed, event_at, scn_at};
@@ -14,14 +15,11 @@ use event_codec::MARK_SIZE;
 /// The most windows that a reply has.
 const MOST_WINDOWS: u32 = 32;
 
-/// A run of windows as a filter left them: how many, the SCN of the last one, or 0, the bytes that they take together and
-/// each.
+/// A run of windows: how many, and the SCN of the last one, or 0.
 #[derive(Clone, Copy, Debug)]
 pub(crate) struct Run {
     pub count: u32,
     pub last: u64,
-    pub bytes: u64,
-    pub sizes: [u32; 32],
 }
 
 // The bytes of an event where a filter accepts it, and else 0.
@@ -52,47 +50,82 @@ pub(crate) fn cut_size<F: Accepts>(circle: &Circle, at: usize, slot: &Slot, filt
     size
 }
 
-/// The longest run of windows from a place in their order on that a filter leaves at most `max` bytes of.
-pub(crate) fn longest_run<F: Accepts>(kept: &Kept, from: usize, filter: &F, max: u64) -> Run
+// So many windows from a place in their order on.
+fn run_up_to(kept: &Kept, from: usize, count: u32) -> Run
+    requires some { 0 < count }
+    requires within { from + count ≤ length kept.now.windows }
+    ensures count { result.count ≡ count }
+    ensures last { end_from kept.now.floor (take (from + count) kept.now.windows) ≡ result.last }
+    ensures range { result.last ≤ MAX_SCN }
+{
+    let _within = kept.len();
+    let last = kept.scn(from + count as usize - 1);
+    Run { count, last }
+}
+
+// The run of the windows from a place in their order on, at most 32, where they fit in `max` bytes even in full. No event is
+// looked at.
+fn run_in_full(kept: &Kept, from: usize, max: u64) -> Option<Run>
+    requires { from < length kept.now.windows }
+    ensures run { IfSome result (λ run. (test : Test) → IsRun test kept.now.windows from max run.count run.last) }
+    ensures few { IfSome result (λ run. run.count ≤ most_windows) }
+    ensures range { IfSome result (λ run. run.last ≤ MAX_SCN) }
+{
+    let end = kept.len();
+    let mut bytes = 0;
+    for count in 0..MOST_WINDOWS {
+        let place = from + count as usize;
+        if place >= end {
+            return Some(run_up_to(kept, from, count));
+        }
+        let (_at, slot) = kept.window(place);
+        bytes += slot.size as u64;
+        if bytes > max {
+            return None;
+        }
+    }
+    Some(run_up_to(kept, from, MOST_WINDOWS))
+}
+
+// The longest run of windows from a place in their order on that a filter leaves at most `max` bytes of, by a look at each
+// event.
+fn run_of_cuts<F: Accepts>(kept: &Kept, from: usize, filter: &F, max: u64) -> Run
     requires { from ≤ length kept.now.windows }
-    ensures tells { Tells result.count result.last result.bytes []
-        (longest_run most_windows max (cuts (F.test filter.now) (drop from kept.now.windows))) }
+    ensures run { IsRun (F.test filter.now) kept.now.windows from max result.count result.last }
     ensures few { result.count ≤ most_windows }
-    ensures sizes { AreSizes (F.test filter.now) result.sizes result.count from kept.now.windows }
     ensures range { result.last ≤ MAX_SCN }
 {
     let end = kept.len();
     let mut last = 0;
     let mut bytes = 0;
-    let mut sizes = [0; 32];
     for count in 0..MOST_WINDOWS {
         let place = from + count as usize;
         if place >= end {
-            return Run {
-                count,
-                last,
-                bytes,
-                sizes,
-            };
+            return Run { count, last };
         }
         let (at, slot) = kept.window(place);
         let size = cut_size(kept.circle(), at, slot, filter);
         if size > max - bytes {
-            return Run {
-                count,
-                last,
-                bytes,
-                sizes,
-            };
+            return Run { count, last };
         }
         bytes += size;
-        sizes[count as usize] = size as u32;
         last = scn_at(kept.circle(), at, slot);
     }
     Run {
         count: MOST_WINDOWS,
         last,
-        bytes,
-        sizes,
+    }
+}
+
+/// The longest run of windows from a place in their order on, where one stands, that a filter leaves at most `max` bytes of.
+pub(crate) fn longest_run<F: Accepts>(kept: &Kept, from: usize, filter: &F, max: u64) -> Run
+    requires { from < length kept.now.windows }
+    ensures run { IsRun (F.test filter.now) kept.now.windows from max result.count result.last }
+    ensures few { result.count ≤ most_windows }
+    ensures range { result.last ≤ MAX_SCN }
+{
+    match run_in_full(kept, from, max) {
+        Some(run) => run,
+        None => run_of_cuts(kept, from, filter, max),
     }
 }

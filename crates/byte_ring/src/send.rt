@@ -1,13 +1,12 @@
 ghost use Rattle.std.specs.Prelude.{◌≡◌, ◌+◌, ◌*◌, ◌≤◌, ◌<◌, ◌^◌, [], length, take, drop, if◌then◌else◌, OnErr};
 ghost use Rattle.bus_types.specs.Causes.{HasCause};
 ghost use Rattle.bus_types.specs.Change.{accepted};
-ghost use Rattle.bus_types.specs.Cut.{cut, cut_size, cuts};
+ghost use Rattle.bus_types.specs.Cut.{cut, cuts};
 ghost use Rattle.bus_types.specs.Relay.{most_windows};
 ghost use Rattle.bus_types.specs.Window.{span_size};
 ghost use Rattle.event_codec.specs.Bytes.{changes_bytes, mark_bytes, window_bytes};
 ghost use Rattle.event_codec.specs.Streams.{windows_bytes};
 ghost use Rattle.plain_buffer.specs.Send.{told, Sends};
-ghost use Rattle.byte_ring.specs.Sizes.{AreSizes};
 ghost use Rattle.byte_ring.specs.Parts.{between, passed, Awaiting, WindowAt, Moves};
 
 use crate::circle::Circle;
@@ -143,37 +142,6 @@ fn pass_events<F: Accepts, W: Sink>(
     Ok(pending)
 }
 
-// Adds what a filter leaves of a slot's window, which stands at a place, in so many bytes. Where that is all of it, or the
-// mark alone, no event is looked at.
-fn pass_window<F: Accepts, W: Sink>(
-    circle: &Circle,
-    pending: Pending,
-    at: usize,
-    slot: &Slot,
-    size: u32,
-    filter: &F,
-    out: &mut W,
-) -> Result<Pending, WriteFault>
-    requires awaiting { Awaiting circle.now.bytes pending }
-    requires few { passed pending + span_size slot.now.window.value < 2 ^ 64 }
-    requires there { WindowAt circle.now.bytes at slot.now }
-    requires size { size ≡ cut_size (F.test filter.now) slot.now.window.value }
-    ensures moves { Moves circle.now.bytes (told (W.written out.old) (W.room out.old)) (told (W.written out.new) (W.room out.new))
-        pending result (window_bytes (cut (F.test filter.now) slot.now.window.value)) }
-    ensures risen { OnErr result (W.faults out.old < W.faults out.new) }
-    ensures beside { W.beside out.new ≡ W.beside out.old }
-    ensures cause { HasCause (W.faults out.old) (W.faults out.new) result }
-{
-    let _within = circle.len();
-    if size == slot.size {
-        return pass(circle, pending, at, slot.size as usize, out);
-    }
-    if size == MARK_SIZE as u32 {
-        return pass_mark(circle, pending, at, slot, out);
-    }
-    pass_items(circle, pending, at, slot, filter, out)
-}
-
 // Adds the mark of a slot's window, which stands at a place.
 fn pass_mark<W: Sink>(
     circle: &Circle,
@@ -218,19 +186,17 @@ fn pass_items<F: Accepts, W: Sink>(
     pass_mark(circle, pending, at, slot, out)
 }
 
-/// Sends what a filter leaves of so many windows from a place in their order on, at most 32, of which each takes so many
-/// bytes, in parts that are as long as it leaves them. A fault tells how many bytes went out.
+/// Sends what a filter leaves of so many windows from a place in their order on, at most 32, in parts that are as long as
+/// it leaves them, and answers how many bytes that were. A fault tells how many bytes went out.
 pub(crate) fn send_windows<F: Accepts, W: Sink>(
     kept: &Kept,
     from: usize,
     count: u32,
-    sizes: &[u32; 32],
     filter: &F,
     out: &mut W,
 ) -> Result<u64, WriteFault>
     requires within { from + count ≤ length kept.now.windows }
     requires few { count ≤ most_windows }
-    requires sizes { AreSizes (F.test filter.now) sizes.now count from kept.now.windows }
     ensures sends { Sends (told (W.written out.old) (W.room out.old)) (told (W.written out.new) (W.room out.new)) 0 result
         (windows_bytes (cuts (F.test filter.now) (take count (drop from kept.now.windows)))) }
     ensures risen { OnErr result (W.faults out.old < W.faults out.new) }
@@ -246,8 +212,7 @@ pub(crate) fn send_windows<F: Accepts, W: Sink>(
     };
     for i in 0..count {
         let (at, slot) = kept.window(from + i as usize);
-        let size = sizes[i as usize];
-        pending = pass_window(circle, pending, at, slot, size, filter, out)?;
+        pending = pass_items(circle, pending, at, slot, filter, out)?;
     }
     send_pending(circle, pending, out)
 }

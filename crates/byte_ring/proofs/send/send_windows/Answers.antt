@@ -16,8 +16,8 @@ returns-in_err-pending-clause-sends g c =
     let is = sym (get_or_from_slice_get ws (c.args.from + c.loop-i.i) w w c.window-at.ensures.window) in
     let left = windows_left test ws c.args.from c.loop-i.i c.args.count w c.loop-i-test.true (omega (arith, c.loop-i-test.true, c.requires)) is in
     let fault = c.in_err-pending.field-0.0 in
-    let broken = moves_broken bytes (told (g.W.Sink.written c.args.out.now) (g.W.Sink.room c.args.out.now)) _ _ (told (g.W.Sink.written c.loop-i.out) (g.W.Sink.room c.loop-i.out)) (told (g.W.Sink.written c.pass_window.new.out) (g.W.Sink.room c.pass_window.new.out)) c.loop-i.pending fault _ _ _ left c.loop-i.invariant.moves c.in_err-pending.ensures.moves in
-    rw (p.1, p.2) (moves_fault bytes (told (g.W.Sink.written c.args.out.now) (g.W.Sink.room c.args.out.now)) (told (g.W.Sink.written c.pass_window.new.out) (g.W.Sink.room c.pass_window.new.out)) fault _ broken)
+    let broken = moves_broken bytes (told (g.W.Sink.written c.args.out.now) (g.W.Sink.room c.args.out.now)) _ _ (told (g.W.Sink.written c.loop-i.out) (g.W.Sink.room c.loop-i.out)) (told (g.W.Sink.written c.pass_items.new.out) (g.W.Sink.room c.pass_items.new.out)) c.loop-i.pending fault _ _ _ left c.loop-i.invariant.moves c.in_err-pending.ensures.moves in
+    rw (p.1, p.2) (moves_fault bytes (told (g.W.Sink.written c.args.out.now) (g.W.Sink.room c.args.out.now)) (told (g.W.Sink.written c.pass_items.new.out) (g.W.Sink.room c.pass_items.new.out)) fault _ broken)
 
 pub loop-i-preserved : goal.loop-i-preserved
 loop-i-preserved g c =
@@ -29,7 +29,7 @@ loop-i-preserved g c =
     let left = windows_left test ws c.args.from c.loop-i.i c.args.count w c.loop-i-test.true (omega (arith, c.loop-i-test.true, c.requires)) is in
     let moved = c.in_ok-pending.ensures.moves in
     record {
-      moves = moves_more bytes (told (g.W.Sink.written c.args.out.now) (g.W.Sink.room c.args.out.now)) _ _ (told (g.W.Sink.written c.loop-i.out) (g.W.Sink.room c.loop-i.out)) (told (g.W.Sink.written c.pass_window.new.out) (g.W.Sink.room c.pass_window.new.out)) c.loop-i.pending c.in_ok-pending.pending _ _ _ left c.loop-i.invariant.moves moved;
+      moves = moves_more bytes (told (g.W.Sink.written c.args.out.now) (g.W.Sink.room c.args.out.now)) _ _ (told (g.W.Sink.written c.loop-i.out) (g.W.Sink.room c.loop-i.out)) (told (g.W.Sink.written c.pass_items.new.out) (g.W.Sink.room c.pass_items.new.out)) c.loop-i.pending c.in_ok-pending.pending _ _ _ left c.loop-i.invariant.moves moved;
       awaiting = moved.awaiting;
       few = omega (arith, moved.count, c.loop-i.invariant.few, cut_short test w c.window-at.ensures.there.is);
       beside = c.in_ok-pending.ensures.beside ∙ c.loop-i.invariant.beside;

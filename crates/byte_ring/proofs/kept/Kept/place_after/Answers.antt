@@ -1,4 +1,4 @@
-use Rattle.std.proofs.Common.{◌≡◌, suc, ◌+◌, ◌<◌, take, sym, ap, subst, ◌∙◌, arith}
+use Rattle.std.proofs.Common.{◌≡◌, suc, ◌<◌, take, subst, arith}
 use Rattle.bus_types.specs.Timeline.{end_from}
 use Rattle.bus_types.proofs.Stretches.{Rises, timeline_rises}
 use Rattle.byte_ring.specs.Kept.{Holds}
