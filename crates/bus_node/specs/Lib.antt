@@ -1,4 +1,5 @@
 pub mod Status
 pub mod Words
+pub mod Options
 pub mod Exchange
 pub mod Doors

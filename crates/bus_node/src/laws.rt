@@ -1,9 +1,9 @@
-ghost use Rattle.std.specs.Prelude.{◌≡◌, Some, None, [], ◌∷◌, codes};
+ghost use Rattle.std.specs.Prelude.{◌≡◌, ℕ, List, Some, None, true, false, is_some, [], ◌∷◌, codes};
 ghost use Rattle.partition_filter.specs.Selection.Selection.{All, Rules};
 ghost use Rattle.partition_filter.specs.declared.rule.Keys.TheVariants.{Remainder};
 ghost use Rattle.trace_script.specs.Words.{words_of};
 ghost use Rattle.bus_node.specs.declared.words.NodeWords.TheVariants.{Relay, Bootstrap, Consume};
-ghost use Rattle.bus_node.specs.Words.{node_words};
+ghost use Rattle.bus_node.specs.Words.{node_words, is_plain};
 
 /// What some words start, by computation from their definition alone. The words stand with one space between two.
 pub fn worked_words()
@@ -42,4 +42,19 @@ pub fn worked_words()
     ensures empty_word { node_words ([] ∷ []) ≡ None }
     ensures alone { node_words (codes "relay" ∷ []) ≡ None }
     ensures other_node { node_words (words_of (codes "relays --port 7001 --bytes 1048576 --windows 16 --connections 3")) ≡ None }
+{}
+
+/// Which words are of the plain form: all that start a node; and some others, by computation from the definition alone.
+pub fn plain_words()
+    ensures start { (words : List (List ℕ)) → is_some (node_words words) ≡ true → is_plain words ≡ true }
+    ensures out_of_range { is_plain (words_of (codes "relay --port 0 --bytes 1 --windows 65537 --connections x")) ≡ true }
+    ensures turned { is_plain (words_of (codes "bootstrap --connections 0 --rounds 0 --relay 0 --port 0")) ≡ true }
+    ensures no_names { is_plain (words_of (codes "consume --max 0 --polls 0 --bootstrap 0 --relay 0 --filter al --name C")) ≡ true }
+    ensures missing { is_plain (words_of (codes "relay --port 7001 --bytes 1048576 --windows 16")) ≡ false }
+    ensures repeated { is_plain (words_of (codes "relay --port 7001 --bytes 1048576 --windows 16 --port 7001")) ≡ false }
+    ensures unknown { is_plain (words_of (codes "relay --port 7001 --bytes 1048576 --windows 16 --polls 3")) ≡ false }
+    ensures joined { is_plain (words_of (codes "relay --port=7001 --bytes 1048576 --windows 16 --connections 3")) ≡ false }
+    ensures negative { is_plain (words_of (codes "relay --port -1 --bytes 1048576 --windows 16 --connections 3")) ≡ false }
+    ensures other_node { is_plain (words_of (codes "relays --port 7001 --bytes 1048576 --windows 16 --connections 3")) ≡ false }
+    ensures no_words { is_plain [] ≡ false }
 {}

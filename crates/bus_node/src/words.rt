@@ -1,11 +1,23 @@
-ghost use Rattle.std.specs.Prelude.{◌≡◌, ◌<◌, ◌≤◌, ◌∷◌, Some, None, map, option_map, length, IfOk, IfSome, IfNone, IsErrOf, string_bytes};
+ghost use Rattle.std.specs.Prelude.{◌≡◌, ◌≤◌, ◌∷◌, Some, None, true, map, IfOk, IfSome, IsErr, IsErrOf, string_bytes};
 ghost use Rattle.trace_script.specs.Words.{number_in, name_of, selection_of};
-ghost use Rattle.bus_node.specs.Words.{in_pairs, value_of, options_of, number_at, name_at, filter_at, relay_words, bootstrap_words, polling_at, consume_words, relay_node, bootstrap_node, consume_node, node_words, IsPort, IsRelay, IsBootstrap, IsPolling, IsConsume, IsInRange};
+ghost use Rattle.bus_node.specs.Words.{number_at, name_at, filter_at, relay_at, bootstrap_at, polling_at, consume_at, relay_words, bootstrap_words, consume_words, relay_node, bootstrap_node, consume_node, node_words, has_options, relay_names, bootstrap_names, consume_names, is_plain, IsPort, IsRelay, IsBootstrap, IsPolling, IsConsume, IsInRange};
+ghost use Rattle.bus_node.specs.Options.{said_by};
 
+use crate::options::{read_options, text_at};
 use bus_types::{NoMemory, read_number};
+use clap::ArgMatches;
 use partition_filter::{Filter, FilterFault};
 use std::alloc::Global;
 use trace_script::Name;
+
+/// The names of a relay's options.
+const RELAY_NAMES: [&str; 4] = ["port", "bytes", "windows", "connections"];
+
+/// The names of a bootstrap's options.
+const BOOTSTRAP_NAMES: [&str; 4] = ["port", "relay", "rounds", "connections"];
+
+/// The names of a consumer's options.
+const CONSUME_NAMES: [&str; 6] = ["name", "filter", "relay", "bootstrap", "polls", "max"];
 
 /// The greatest port.
 const MAX_PORT: u64 = 65_535;
@@ -97,47 +109,6 @@ pub enum WordsFault {
     NoMemory,
 }
 
-// The first two of some words, and those behind them.
-#[tactic(auto, using(crate::proofs::Pairs::pairs))]
-fn next_pair(words: &[String]) -> Option<(&str, &str, &[String])>
-    ensures some { IfSome result (λ pair. map string_bytes words.now ≡ pair.0.now ∷ pair.1.now ∷ map string_bytes pair.2.now) }
-    ensures shorter { IfSome result (λ pair. length pair.2.now < length words.now) }
-    ensures none { IfNone result (length words.now < 2) }
-{
-    let [name, value, rest @ ..] = words else {
-        return None;
-    };
-    Some((name.as_str(), value.as_str(), rest))
-}
-
-// The value of an option, where it stands.
-#[tactic(auto, using(crate::proofs::Pairs::values))]
-fn value_of<'a>(name: &[u8], words: &'a [String]) -> Option<&'a str>
-    ensures { option_map (λ value. value.now) result ≡ value_of name.now (in_pairs (map string_bytes words.now)) }
-{
-    let mut rest = words;
-    'pairs: while let Some((first, value, after)) = next_pair(rest) {
-        if first.as_bytes() == name {
-            return Some(value);
-        }
-        rest = after;
-    }
-    None
-}
-
-// The words of options, where they are as many as wanted.
-#[tactic(auto, unfolding(crate::specs::Words::options_of), using(crate::proofs::Pairs::sizes))]
-fn options_of(count: usize, words: &[String]) -> Option<&[String]>
-    requires { count ≤ 6 }
-    ensures { option_map (λ options. in_pairs (map string_bytes options.now)) result ≡ options_of count (map string_bytes words.now) }
-{
-    if words.len() == count * 2 {
-        Some(words)
-    } else {
-        None
-    }
-}
-
 // The number from one to another that a text spells.
 #[tactic(auto, unfolding(trace_script::specs::Words::number_in))]
 fn number_in(least: u64, most: u64, text: &str) -> Option<u64>
@@ -150,38 +121,38 @@ fn number_in(least: u64, most: u64, text: &str) -> Option<u64>
 
 // The number from one to another that an option says.
 #[tactic(auto, unfolding(crate::specs::Words::number_at))]
-fn number_at(name: &[u8], least: u64, most: u64, words: &[String]) -> Option<u64>
-    ensures value { result ≡ number_at name.now least most (in_pairs (map string_bytes words.now)) }
+fn number_at(name: &str, least: u64, most: u64, matches: &ArgMatches<'_>) -> Option<u64>
+    ensures value { result ≡ number_at name.now least most (said_by matches.now) }
     ensures within { IfSome result (λ number. (least ≤ number) × (number ≤ most)) }
 {
-    let text = value_of(name, words)?;
+    let text = text_at(name, matches)?;
     number_in(least, most, text)
 }
 
 // The port that an option says.
-fn port_at(name: &[u8], words: &[String]) -> Option<u16>
-    ensures value { result ≡ number_at name.now 1 65535 (in_pairs (map string_bytes words.now)) }
+fn port_at(name: &str, matches: &ArgMatches<'_>) -> Option<u16>
+    ensures value { result ≡ number_at name.now 1 65535 (said_by matches.now) }
     ensures within { IfSome result IsPort }
 {
-    let port = number_at(name, 1, MAX_PORT, words)?;
+    let port = number_at(name, 1, MAX_PORT, matches)?;
     Some(port as u16)
 }
 
 // The number from 1 to another that an option says.
-fn count_at(name: &[u8], most: u32, words: &[String]) -> Option<u32>
-    ensures value { result ≡ number_at name.now 1 most (in_pairs (map string_bytes words.now)) }
+fn count_at(name: &str, most: u32, matches: &ArgMatches<'_>) -> Option<u32>
+    ensures value { result ≡ number_at name.now 1 most (said_by matches.now) }
     ensures within { IfSome result (λ count. (1 ≤ count) × (count ≤ most)) }
 {
-    let count = number_at(name, 1, u64::from(most), words)?;
+    let count = number_at(name, 1, u64::from(most), matches)?;
     Some(count as u32)
 }
 
 // The name of a consumer that an option says.
 #[tactic(auto, unfolding(crate::specs::Words::name_at, trace_script::specs::Words::name_of))]
-fn name_at(name: &[u8], words: &[String]) -> Option<Name>
-    ensures { result ≡ name_at name.now (in_pairs (map string_bytes words.now)) }
+fn name_at(name: &str, matches: &ArgMatches<'_>) -> Option<Name>
+    ensures { result ≡ name_at name.now (said_by matches.now) }
 {
-    let text = value_of(name, words)?;
+    let text = text_at(name, matches)?;
     Name::new(text.as_bytes())
 }
 
@@ -198,25 +169,29 @@ fn filter_in(alloc: Global, text: &str) -> Result<Option<Filter>, NoMemory>
 
 // The filter that an option spells.
 #[tactic(auto, unfolding(crate::specs::Words::filter_at))]
-fn filter_at(alloc: Global, name: &[u8], words: &[String]) -> Result<Option<Filter>, NoMemory>
-    ensures { IfOk result (λ filter. filter ≡ filter_at name.now (in_pairs (map string_bytes words.now))) }
+fn filter_at(
+    alloc: Global,
+    name: &str,
+    matches: &ArgMatches<'_>,
+) -> Result<Option<Filter>, NoMemory>
+    ensures { IfOk result (λ filter. filter ≡ filter_at name.now (said_by matches.now)) }
 {
-    let Some(text) = value_of(name, words) else {
+    let Some(text) = text_at(name, matches) else {
         return Ok(None);
     };
     filter_in(alloc, text)
 }
 
-#[tactic(auto, unfolding(crate::specs::Words::relay_words))]
-fn relay_words(words: &[String]) -> Option<RelayWords>
-    ensures value { result ≡ relay_words (map string_bytes words.now) }
+// What the options of a relay say.
+#[tactic(auto, unfolding(crate::specs::Words::relay_at))]
+fn relay_at(matches: &ArgMatches<'_>) -> Option<RelayWords>
+    ensures value { result ≡ relay_at (said_by matches.now) }
     ensures within { IfSome result IsRelay }
 {
-    let options = options_of(4, words)?;
-    let port = port_at(b"--port", options)?;
-    let bytes = number_at(b"--bytes", MIN_BYTES, MAX_BYTES, options)?;
-    let windows = count_at(b"--windows", MAX_WINDOWS, options)?;
-    let connections = count_at(b"--connections", MAX_COUNT, options)?;
+    let port = port_at("port", matches)?;
+    let bytes = number_at("bytes", MIN_BYTES, MAX_BYTES, matches)?;
+    let windows = count_at("windows", MAX_WINDOWS, matches)?;
+    let connections = count_at("connections", MAX_COUNT, matches)?;
     Some(RelayWords {
         port,
         bytes,
@@ -225,16 +200,16 @@ fn relay_words(words: &[String]) -> Option<RelayWords>
     })
 }
 
-#[tactic(auto, unfolding(crate::specs::Words::bootstrap_words))]
-fn bootstrap_words(words: &[String]) -> Option<BootstrapWords>
-    ensures value { result ≡ bootstrap_words (map string_bytes words.now) }
+// What the options of a bootstrap say.
+#[tactic(auto, unfolding(crate::specs::Words::bootstrap_at))]
+fn bootstrap_at(matches: &ArgMatches<'_>) -> Option<BootstrapWords>
+    ensures value { result ≡ bootstrap_at (said_by matches.now) }
     ensures within { IfSome result IsBootstrap }
 {
-    let options = options_of(4, words)?;
-    let port = port_at(b"--port", options)?;
-    let relay = port_at(b"--relay", options)?;
-    let rounds = count_at(b"--rounds", MAX_COUNT, options)?;
-    let connections = count_at(b"--connections", MAX_COUNT, options)?;
+    let port = port_at("port", matches)?;
+    let relay = port_at("relay", matches)?;
+    let rounds = count_at("rounds", MAX_COUNT, matches)?;
+    let connections = count_at("connections", MAX_COUNT, matches)?;
     Some(BootstrapWords {
         port,
         relay,
@@ -243,16 +218,16 @@ fn bootstrap_words(words: &[String]) -> Option<BootstrapWords>
     })
 }
 
-// The words of a consumer but its name and filter.
+// What the options of a consumer say but its name and its filter.
 #[tactic(auto, unfolding(crate::specs::Words::polling_at))]
-fn polling_at(words: &[String]) -> Option<Polling>
-    ensures value { result ≡ polling_at (in_pairs (map string_bytes words.now)) }
+fn polling_at(matches: &ArgMatches<'_>) -> Option<Polling>
+    ensures value { result ≡ polling_at (said_by matches.now) }
     ensures within { IfSome result IsPolling }
 {
-    let relay = port_at(b"--relay", words)?;
-    let bootstrap = port_at(b"--bootstrap", words)?;
-    let polls = count_at(b"--polls", MAX_COUNT, words)?;
-    let max = count_at(b"--max", MAX_REPLY, words)?;
+    let relay = port_at("relay", matches)?;
+    let bootstrap = port_at("bootstrap", matches)?;
+    let polls = count_at("polls", MAX_COUNT, matches)?;
+    let max = count_at("max", MAX_REPLY, matches)?;
     Some(Polling {
         relay,
         bootstrap,
@@ -261,21 +236,19 @@ fn polling_at(words: &[String]) -> Option<Polling>
     })
 }
 
-#[tactic(auto, unfolding(crate::specs::Words::consume_words))]
-fn consume_words(alloc: Global, words: &[String]) -> Result<Option<ConsumeWords>, NoMemory>
-    ensures value { IfOk result (λ found. found ≡ consume_words (map string_bytes words.now)) }
+// What the options of a consumer say.
+#[tactic(auto, unfolding(crate::specs::Words::consume_at))]
+fn consume_at(alloc: Global, matches: &ArgMatches<'_>) -> Result<Option<ConsumeWords>, NoMemory>
+    ensures value { IfOk result (λ found. found ≡ consume_at (said_by matches.now)) }
     ensures within { IfOk result (λ found. IfSome found IsConsume) }
 {
-    let Some(options) = options_of(6, words) else {
+    let Some(name) = name_at("name", matches) else {
         return Ok(None);
     };
-    let Some(name) = name_at(b"--name", options) else {
+    let Some(polling) = polling_at(matches) else {
         return Ok(None);
     };
-    let Some(polling) = polling_at(options) else {
-        return Ok(None);
-    };
-    let Some(filter) = filter_at(alloc, b"--filter", options)? else {
+    let Some(filter) = filter_at(alloc, "filter", matches)? else {
         return Ok(None);
     };
     Ok(Some(ConsumeWords {
@@ -288,28 +261,74 @@ fn consume_words(alloc: Global, words: &[String]) -> Result<Option<ConsumeWords>
     }))
 }
 
-#[tactic(auto, unfolding(crate::specs::Words::relay_node))]
-fn relay_node(words: &[String]) -> Option<NodeWords>
-    ensures value { result ≡ relay_node (map string_bytes words.now) }
-    ensures within { IfSome result IsInRange }
+// What the words of a relay say.
+#[tactic(auto, using(crate::proofs::Forms::relays))]
+fn relay_words(alloc: Global, words: &[String]) -> Result<Option<RelayWords>, NoMemory>
+    ensures value { IfOk result (λ found. found ≡ relay_words (map string_bytes words.now)) }
+    ensures within { IfOk result (λ found. IfSome found IsRelay) }
+    ensures memory { IsErr result → has_options relay_names (map string_bytes words.now) ≡ true }
 {
-    let found = relay_words(words)?;
-    Some(NodeWords::Relay(found))
+    let Some(matches) = read_options(alloc, &RELAY_NAMES, words)? else {
+        return Ok(None);
+    };
+    Ok(relay_at(&matches))
+}
+
+// What the words of a bootstrap say.
+#[tactic(auto, using(crate::proofs::Forms::bootstraps))]
+fn bootstrap_words(alloc: Global, words: &[String]) -> Result<Option<BootstrapWords>, NoMemory>
+    ensures value { IfOk result (λ found. found ≡ bootstrap_words (map string_bytes words.now)) }
+    ensures within { IfOk result (λ found. IfSome found IsBootstrap) }
+    ensures memory { IsErr result → has_options bootstrap_names (map string_bytes words.now) ≡ true }
+{
+    let Some(matches) = read_options(alloc, &BOOTSTRAP_NAMES, words)? else {
+        return Ok(None);
+    };
+    Ok(bootstrap_at(&matches))
+}
+
+// What the words of a consumer say.
+#[tactic(auto, using(crate::proofs::Forms::consumes))]
+fn consume_words(alloc: Global, words: &[String]) -> Result<Option<ConsumeWords>, NoMemory>
+    ensures value { IfOk result (λ found. found ≡ consume_words (map string_bytes words.now)) }
+    ensures within { IfOk result (λ found. IfSome found IsConsume) }
+    ensures memory { IsErr result → has_options consume_names (map string_bytes words.now) ≡ true }
+{
+    let Some(matches) = read_options(alloc, &CONSUME_NAMES, words)? else {
+        return Ok(None);
+    };
+    consume_at(alloc, &matches)
+}
+
+#[tactic(auto, unfolding(crate::specs::Words::relay_node))]
+fn relay_node(alloc: Global, words: &[String]) -> Result<Option<NodeWords>, NoMemory>
+    ensures value { IfOk result (λ found. found ≡ relay_node (map string_bytes words.now)) }
+    ensures within { IfOk result (λ found. IfSome found IsInRange) }
+    ensures memory { IsErr result → has_options relay_names (map string_bytes words.now) ≡ true }
+{
+    let Some(found) = relay_words(alloc, words)? else {
+        return Ok(None);
+    };
+    Ok(Some(NodeWords::Relay(found)))
 }
 
 #[tactic(auto, unfolding(crate::specs::Words::bootstrap_node))]
-fn bootstrap_node(words: &[String]) -> Option<NodeWords>
-    ensures value { result ≡ bootstrap_node (map string_bytes words.now) }
-    ensures within { IfSome result IsInRange }
+fn bootstrap_node(alloc: Global, words: &[String]) -> Result<Option<NodeWords>, NoMemory>
+    ensures value { IfOk result (λ found. found ≡ bootstrap_node (map string_bytes words.now)) }
+    ensures within { IfOk result (λ found. IfSome found IsInRange) }
+    ensures memory { IsErr result → has_options bootstrap_names (map string_bytes words.now) ≡ true }
 {
-    let found = bootstrap_words(words)?;
-    Some(NodeWords::Bootstrap(found))
+    let Some(found) = bootstrap_words(alloc, words)? else {
+        return Ok(None);
+    };
+    Ok(Some(NodeWords::Bootstrap(found)))
 }
 
 #[tactic(auto, unfolding(crate::specs::Words::consume_node))]
 fn consume_node(alloc: Global, words: &[String]) -> Result<Option<NodeWords>, NoMemory>
     ensures value { IfOk result (λ found. found ≡ consume_node (map string_bytes words.now)) }
     ensures within { IfOk result (λ found. IfSome found IsInRange) }
+    ensures memory { IsErr result → has_options consume_names (map string_bytes words.now) ≡ true }
 {
     let Some(found) = consume_words(alloc, words)? else {
         return Ok(None);
@@ -318,16 +337,17 @@ fn consume_node(alloc: Global, words: &[String]) -> Result<Option<NodeWords>, No
 }
 
 // The node of its word and the words behind it.
-#[tactic(auto, unfolding(crate::specs::Words::node_words))]
+#[tactic(auto, unfolding(crate::specs::Words::node_words, crate::specs::Words::is_plain))]
 fn node_of(alloc: Global, first: &str, words: &[String]) -> Result<Option<NodeWords>, NoMemory>
     ensures value { IfOk result (λ found. found ≡ node_words (first.now ∷ map string_bytes words.now)) }
     ensures within { IfOk result (λ found. IfSome found IsInRange) }
+    ensures memory { IsErr result → is_plain (first.now ∷ map string_bytes words.now) ≡ true }
 {
     if first.as_bytes() == b"relay".as_slice() {
-        return Ok(relay_node(words));
+        return relay_node(alloc, words);
     }
     if first.as_bytes() == b"bootstrap".as_slice() {
-        return Ok(bootstrap_node(words));
+        return bootstrap_node(alloc, words);
     }
     if first.as_bytes() == b"consume".as_slice() {
         return consume_node(alloc, words);
@@ -340,6 +360,7 @@ fn node_of(alloc: Global, first: &str, words: &[String]) -> Result<Option<NodeWo
 fn node_words(alloc: Global, words: &[String]) -> Result<Option<NodeWords>, NoMemory>
     ensures value { IfOk result (λ found. found ≡ node_words (map string_bytes words.now)) }
     ensures within { IfOk result (λ found. IfSome found IsInRange) }
+    ensures memory { IsErr result → is_plain (map string_bytes words.now) ≡ true }
 {
     let [first, rest @ ..] = words else {
         return Ok(None);
@@ -349,10 +370,15 @@ fn node_words(alloc: Global, words: &[String]) -> Result<Option<NodeWords>, NoMe
 
 /// What the words of a command say: the word `relay`, `bootstrap` or `consume`, and then each option of that node once, in any
 /// order, as the two words `--name value`, with each value in its range. `Usage` comes exactly where they aren't of that form.
+/// `NoMemory` comes where memory ran out, and only of words of the plain form: a node's word and each of its options once, each
+/// with a value that begins with no hyphen. All other words are answered `Usage`, whatever memory there is.
 pub fn read_words(alloc: Global, words: &[String]) -> Result<NodeWords, WordsFault>
     ensures found { IfOk result (λ w. node_words (map string_bytes words.now) ≡ Some w) }
     ensures within { IfOk result IsInRange }
     ensures usage { IsErrOf result WordsFault.Usage → node_words (map string_bytes words.now) ≡ None }
+
+    // Memory is wanted only for words of the plain form.
+    ensures memory { IsErrOf result WordsFault.NoMemory → is_plain (map string_bytes words.now) ≡ true }
 {
     match node_words(alloc, words) {
         Ok(Some(found)) => Ok(found),

@@ -3,11 +3,11 @@ use Rattle.std.specs.Fmt.{digits}
 use Rattle.bus_types.specs.Text.{number_of}
 use Rattle.partition_filter.specs.Grammar.{numbers_of, listed_of, divisor_of, remainder_of, quotient_of, every_of, rule_from, rule_by, rule_of, next_rule, rules_of, filter_of}
 use Rattle.trace_script.specs.Words.{number_in, name_of}
-use Rattle.bus_node.specs.Words.{options_of, number_at, name_at, filter_at, relay_words, bootstrap_words, polling_at, consume_words, relay_node, bootstrap_node, consume_node, node_words}
+use Rattle.bus_node.specs.Words.{options_of, number_at, name_at, filter_at, relay_at, bootstrap_at, polling_at, consume_at, relay_words, bootstrap_words, consume_words, relay_node, bootstrap_node, consume_node, node_words}
 use Rattle.bus_node.proofs.laws.worked_words.Goals as goal
 
 pub returns : goal.returns
-unfolding digits number_of numbers_of listed_of divisor_of remainder_of quotient_of every_of rule_from rule_by rule_of next_rule rules_of filter_of number_in name_of options_of number_at name_at filter_at relay_words bootstrap_words polling_at consume_words relay_node bootstrap_node consume_node node_words
+unfolding digits number_of numbers_of listed_of divisor_of remainder_of quotient_of every_of rule_from rule_by rule_of next_rule rules_of filter_of number_in name_of options_of number_at name_at filter_at relay_at bootstrap_at polling_at consume_at relay_words bootstrap_words consume_words relay_node bootstrap_node consume_node node_words
 returns c = record {
   relay = refl;
   relay_turned = refl;
