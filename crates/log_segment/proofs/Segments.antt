@@ -128,7 +128,7 @@ module _ {D : Type 0} (st : D → DiskState) (old view : SegmentParts D) (is_vie
 
 module _ (a b : DiskState) where
   pub not_formatted : (e : Failed) → WritesLasting 0 (0 ∷ []) a b (Err e) → Formats a b (Err e)
-  not_formatted e w = record { cause = w.cause; done = tt }
+  not_formatted e w = record { cause = w.cause; done = tt; gate = tt }
 
   pub formatted : (d : DiskState) (x : Unit {0}) (r : Result Unit Failed) → WritesLasting 0 (0 ∷ []) a b (Ok x) → CutsLasting 1 b d r → Formats a d r
   formatted d x (Ok y) w s = record {
@@ -138,8 +138,9 @@ module _ (a b : DiskState) where
       rests = s.done (put 0 (0 ∷ []) bytes) (w.done bytes is).seen;
       ends = record { gate = 0; rest = []; closed = omega arith; parts = refl };
     };
+    gate = λ bytes is. s.done (put 0 (0 ∷ []) bytes) (w.done bytes is).seen;
   }
-  formatted d x (Err e) w s = record { cause = later_cause a.faults b.faults d.faults (Err e) w.cause.later s.cause; done = tt }
+  formatted d x (Err e) w s = record { cause = later_cause a.faults b.faults d.faults (Err e) w.cause.later s.cause; done = tt; gate = tt }
 
 pub ruleset formats = (formatted, not_formatted)
 

@@ -12,7 +12,7 @@ use Rattle.log_disk.specs.Disk.{DiskState, LeavesOnly}
 use Rattle.log_segment.specs.declared.segment.Entry.{Entry}
 use Rattle.log_segment.specs.declared.segment.TheConstants.{MAX_USED}
 use Rattle.log_segment.specs.Image.{whole, IsFree, HoldsInUse}
-use Rattle.log_segment.specs.Gate.{RestsBehind}
+use Rattle.log_segment.specs.Gate.{RestsAt, RestsBehind}
 
 -- ---- what it tells
 
@@ -145,7 +145,8 @@ OnRefused (Err faults.Failed) P = Unit {0}
 OnRefused (Err faults.Full) P = P
 OnRefused (Err faults.NoMemory) P = P
 
--- a disk was formatted: it rests and isn't in use
+-- a disk was formatted: it rests, isn't in use, and is one closed gate
 pub record Formats (old new : DiskState) (result : Result Unit Failed) : Type 0 where
   pub cause : HasCause old.faults new.faults result
   pub done : OnOk result ((bytes : List ℕ) → old.seen ≡ Some bytes → RestsBehind [] new)
+  pub gate : OnOk result ((bytes : List ℕ) → old.seen ≡ Some bytes → RestsAt (0 ∷ []) new)
