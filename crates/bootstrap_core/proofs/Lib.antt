@@ -11,6 +11,7 @@ pub mod FirstMarks
 pub mod BaseFloors
 pub mod SettingBases
 pub mod TrimSteps
+pub mod CommitOrder
 pub mod Replays
 pub mod AskReplies
 pub mod MayReplies

@@ -25,7 +25,7 @@ begins_on scn old read new same b = subst (λ (s : LogState). BeginsBehind scn s
 found_base : (scn base : ℕ) (old : BootState) (read : LogState) → ReadsNewest old.mark.base (min scn old.mark.applied) old.log read (Ok base) → FindsBase scn base old
 found_base scn base old read r = record { is = r.is; low = r.low; high = r.high }
 
-later_on : (base : ℕ) (old new : BootState) (read : LogState) → SetsLater base (record old { log = read }) new → SetsLater base old new
+pub later_on : (base : ℕ) (old new : BootState) (read : LogState) → SetsLater base (record old { log = read }) new → SetsLater base old new
 later_on base old new read s = record { later = s.later; keeper = s.keeper; mark = s.mark }
 
 trims_set : (scn base : ℕ) (result : Result ℕ BootFault) (old new : BootState) (read : LogState) → old.halted ≡ false → ReadsNewest old.mark.base (min scn old.mark.applied) old.log read (Ok base) → SetsBase result base (record old { log = read }) new → Trims result scn old new

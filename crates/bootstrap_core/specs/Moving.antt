@@ -1,15 +1,16 @@
 -- What the applier and a trim make of a bootstrap.
-use Rattle.std.specs.Prelude.{◌≡◌, ℕ, ◌<◌, ◌≤◌, min, max, true, false, [], Some, None, is_some, option_map, IfSome, Result, Ok, Err, ◌⊎◌}
+use Rattle.std.specs.Prelude.{◌≡◌, ℕ, ◌<◌, ◌≤◌, min, max, true, false, List, [], Some, None, is_some, option_map, IfSome, Result, Ok, Err, ◌⊎◌}
 use Rattle.bus_types.specs.Causes.{Rose}
+use Rattle.bus_types.specs.Window.{Span}
 use Rattle.bus_types.specs.Timeline.{end_from, windows_between}
-use Rattle.bus_stores.specs.Keeper.{Move, SameStore, Stopped, Meets, move_of}
-use Rattle.bus_stores.specs.Log.{LogState, LogRoom, SameLog, Dropped}
+use Rattle.bus_stores.specs.Keeper.{KeeperState, Move, SameStore, Stopped, Meets, move_of}
+use Rattle.bus_stores.specs.Log.{LogState, LogRoom, SameLog, Dropped, Bounds, at_rest, dropping_to}
 use Rattle.bus_stores.specs.declared.boot_fault.BootFault.{BootFault}
 use Rattle.bus_stores.specs.declared.boot_fault.BootFault.TheVariants.{LogFailed, StoreFailed, Halted, NoMemory}
 use Rattle.snapshot_applier.specs.declared.boot.BootMark.{BootMark}
 use Rattle.snapshot_applier.specs.BootMark.{boot_mark_text}
 use Rattle.snapshot_applier.specs.Apply.{Applied, Unapplied}
-use Rattle.bootstrap_core.specs.Boot.{BootState}
+use Rattle.bootstrap_core.specs.Boot.{BootParts, BootState, told}
 
 -- a log that tells its windows
 abbrev pub TellsWindows : LogState → Type 0
@@ -107,3 +108,13 @@ Trims (Err StoreFailed) scn old new = (new.halted ≡ true) × Rose old.keeper.f
     × ((base : ℕ) × FindsBase scn base old × SetsNone base old new)
 Trims (Err Halted) scn old new = new ≡ old
 Trims (Err NoMemory) scn old new = (new.halted ≡ old.halted) × SameParts old new
+
+-- ---- what a crash leaves in a trim
+
+-- A log through a trim, with its commit between two moments of the log. Up to a state in which it was only read, it rests. There it
+-- stays; or a later base was committed, and from then on it drops windows up to that.
+pub record CommitsFirst {G K : Type 0} (passes : List Span → Bounds → G → G → Type 0) (log : G → LogState) (keeper : K → KeeperState) (old new : BootParts G K) : Type 0 where
+  pub read : G
+  pub rests : IfSome (log old.log).windows (λ ws. passes ws (at_rest (log old.log)) old.log read)
+  pub drops : (new.log ≡ read) ⊎ (SetsLater new.mark.base (told log keeper old) (told log keeper new)
+      × IfSome (log old.log).windows (λ ws. passes ws (dropping_to new.mark.base (log old.log)) read new.log))

@@ -1,4 +1,4 @@
-ghost use Rattle.std.specs.Prelude.{◌≡◌, ◌<◌, ◌≤◌, ◌↔◌, ℕ, true, false, List, IfOk, IfSome, IsErrOf};
+ghost use Rattle.std.specs.Prelude.{◌≡◌, ◌<◌, ◌≤◌, ◌↔◌, true, false, List, IfOk, IfSome, IsErrOf};
 ghost use Rattle.bus_types.specs.Window.{Span};
 ghost use Rattle.bus_types.specs.Timeline.{IsTimeline};
 ghost use Rattle.bus_stores.specs.Keeper.{BothTold, Commits};
@@ -6,7 +6,7 @@ ghost use Rattle.bus_stores.specs.Log.{IsLog, at_rest, dropping_to};
 ghost use Rattle.snapshot_applier.specs.declared.boot.BootMark.{BootMark};
 ghost use Rattle.snapshot_applier.specs.BootMark.{IsBootMark};
 ghost use Rattle.bootstrap_core.specs.Boot.{told, Stands, StandsForBoot};
-ghost use Rattle.bootstrap_core.specs.Moving.{AppliesBoot, TellsWindows, DropsEach, Trims, base_move};
+ghost use Rattle.bootstrap_core.specs.Moving.{AppliesBoot, TellsWindows, DropsEach, Trims, CommitsFirst, base_move};
 ghost use Rattle.bootstrap_core.specs.Trimming.{halted_at, of_log, of_store, ReadsUpto, ReadsNewest, DropsOrFails, SetsBase};
 
 use crate::boot::Boot;
@@ -75,7 +75,8 @@ impl<G: WindowLog, K: Keeper> Boot<G, K> {
     ///
     /// `Halted` comes exactly after a fault of log or keeper. `LogFailed` and `StoreFailed` come only where that one's count
     /// rose; the bootstrap is then halted, and the keeper is as before the commit or as after it. After want of memory nothing
-    /// changed. A crash meanwhile leaves the log's windows that were told, or those behind a floor up to the new base.
+    /// changed. A crash meanwhile leaves the log's windows that were told, or, once the new base is committed, those behind a
+    /// floor up to that.
     #[tactic(auto, using(bus_stores::proofs::Held::same_calls))]
     pub fn trim(&mut self, alloc: Global, scn: u64) -> Result<u64, BootFault>
         ensures halted { IsErrOf result BootFault.Halted ↔ (self.old.halted ≡ true) }
@@ -87,6 +88,7 @@ impl<G: WindowLog, K: Keeper> Boot<G, K> {
         ensures sound { IsErrOf result BootFault.LogFailed → IfSome (G.state self.old.log).room (λ room. room.sound ≡ false) }
         ensures crash { self.old.halted ≡ false → IfSome (G.state self.old.log).windows
             (λ ws. G.passes ws (dropping_to self.new.mark.base (G.state self.old.log)) self.old.log self.new.log) }
+        ensures order { self.old.halted ≡ false → CommitsFirst G.passes G.state K.state self.old self.new }
 
         // A log that tells its windows, begins at the base, and drops every window that it may begins at the new base.
         ensures floor { TellsWindows (G.state self.old.log) → DropsEach (G.state self.old.log)
@@ -122,8 +124,7 @@ impl<G: WindowLog, K: Keeper> Boot<G, K> {
         ensures log { IfOk result (λ done. IsLog (G.state self.new.log)) }
         ensures calls { BothTold (λ a b. a ≤ b) (K.state self.old.keeper).calls (K.state self.new.keeper).calls }
         ensures room { (G.state self.new.log).room ≡ (G.state self.old.log).room }
-        ensures crash { IfSome (G.state self.old.log).windows
-            (λ ws. G.passes ws (dropping_to self.new.mark.base (G.state self.old.log)) self.old.log self.new.log) }
+        ensures order { CommitsFirst G.passes G.state K.state self.old self.new }
         ensures log_faults { (G.state self.old.log).faults ≤ (G.state self.new.log).faults }
         ensures faults { (K.state self.old.keeper).faults ≤ (K.state self.new.keeper).faults }
         ensures sound { IsErrOf result BootFault.LogFailed → IfSome (G.state self.old.log).room (λ room. room.sound ≡ false) }
@@ -190,7 +191,7 @@ fn newest<G: WindowLog>(alloc: Global, log: &mut G, base: u64, upto: u64) -> Res
     requires { (G.state log.old).floor ≤ base }
     ensures reads { ReadsNewest base upto (G.state log.old) (G.state log.new) result }
     ensures log { IsLog (G.state log.old) }
-    ensures crash { (most : ℕ) → IfSome (G.state log.old).windows (λ ws. G.passes ws (dropping_to most (G.state log.old)) log.old log.new) }
+    ensures crash { IfSome (G.state log.old).windows (λ ws. G.passes ws (at_rest (G.state log.old)) log.old log.new) }
 {
     let _rising = log.high();
     let mut found = base;

@@ -1,8 +1,10 @@
 use Rattle.std.proofs.Common.{◌≡◌, false, Ok, IfSome, rules, subst}
-use Rattle.bus_stores.specs.Log.{dropping_to}
+use Rattle.bus_stores.specs.Log.{at_rest}
 use Rattle.bootstrap_core.specs.Boot.{BootParts, BootState, told}
-use Rattle.bootstrap_core.proofs.CrashBounds.{drops_on}
+use Rattle.bootstrap_core.specs.Moving.{CommitsFirst}
 use Rattle.bootstrap_core.specs.Trimming.{ReadsNewest}
+use Rattle.bootstrap_core.proofs.CommitOrder.{only_read, read_before, drops_at_last}
+use Rattle.bootstrap_core.proofs.SettingBases.{halted_log}
 use Rattle.bootstrap_core.proofs.TrimSteps.{TrimMeets, trim_meets}
 use Rattle.bootstrap_core.proofs.boot.Boot.trim.Goals as goal
 
@@ -26,6 +28,8 @@ returns-in-Ok g c =
       sets = c.set_base.ensures.sets;
       after = c.set_base.ensures.log;
     })) in
+    let order = subst (λ b. CommitsFirst g.G.WindowLog.passes g.G.WindowLog.state g.K.Keeper.state b after) c.self.view_is
+    (read_before g.G.WindowLog.passes g.G.WindowLog.state g.K.Keeper.state _ c.newest.new.log after (λ ws b x y z p q. g.met.G.WindowLog.passes_on ws b x y z p q) reads.same c.newest.ensures.crash c.set_base.ensures.order) in
     record {
       halted = search rules;
       trims = met.trims;
@@ -34,11 +38,36 @@ returns-in-Ok g c =
       sound = λ e. subst (λ b. IfSome (g.G.WindowLog.state b.log).room (λ room. room.sound ≡ false)) c.self.view_is (subst (λ room. IfSome room (λ r. r.sound ≡ false)) reads.counts.room (c.set_base.ensures.sound e));
       calls = search rules;
       room = search rules;
-      crash = λ runs.
-          subst (λ (b : BootParts _ _). IfSome (g.G.WindowLog.state b.log).windows (λ ws. g.G.WindowLog.passes ws (dropping_to after.mark.base (g.G.WindowLog.state b.log)) b.log after.log)) c.self.view_is
-          (drops_on (λ ws b. g.G.WindowLog.passes ws b c.self.inside.log c.newest.new.log) (λ ws b. g.G.WindowLog.passes ws b c.newest.new.log after.log) (λ ws b. g.G.WindowLog.passes ws b c.self.inside.log after.log)
-          after.mark.base old.log read (λ ws b p q. g.met.G.WindowLog.passes_on ws b c.self.inside.log c.newest.new.log after.log p q) reads.same (c.newest.ensures.crash after.mark.base) c.set_base.ensures.crash);
+      crash = λ runs. drops_at_last g.G.WindowLog.passes g.G.WindowLog.state g.K.Keeper.state c.args.self.now after (λ ws b d x y w p. g.met.G.WindowLog.weakens ws ws b d x y w p) (λ ws b x y z p q. g.met.G.WindowLog.passes_on ws b x y z p q) order;
+      order = λ runs. order;
       floor = met.floor;
       stands = met.stands;
       reopens = met.reopens;
     }
+
+pub returns-in-Ok-2-clause-order : goal.returns-in-Ok-2-clause-order
+returns-in-Ok-2-clause-order g c runs =
+    let new : BootParts _ _ = record {
+      log = c.newest.new.log;
+      keeper = c.self.inside.keeper;
+      mark = c.self.inside.mark;
+      halted = c.self.inside.halted;
+    } in
+    subst (λ b. CommitsFirst g.G.WindowLog.passes g.G.WindowLog.state g.K.Keeper.state b new) c.self.view_is
+    (only_read g.G.WindowLog.passes g.G.WindowLog.state g.K.Keeper.state _ new c.newest.ensures.crash)
+
+pub returns-in-Ok-2-clause-crash : goal.returns-in-Ok-2-clause-crash
+returns-in-Ok-2-clause-crash g c runs =
+    drops_at_last g.G.WindowLog.passes g.G.WindowLog.state g.K.Keeper.state c.args.self.now _ (λ ws b d x y w p. g.met.G.WindowLog.weakens ws ws b d x y w p) (λ ws b x y z p q. g.met.G.WindowLog.passes_on ws b x y z p q) (returns-in-Ok-2-clause-order g c runs)
+
+pub returns-in-Err-clause-order : goal.returns-in-Err-clause-order
+returns-in-Err-clause-order g c runs =
+    let log = c.self.inside.log in
+    let new = c.halt_at.new.self in
+    subst (λ b. CommitsFirst g.G.WindowLog.passes g.G.WindowLog.state g.K.Keeper.state b new) c.self.view_is
+    (only_read g.G.WindowLog.passes g.G.WindowLog.state g.K.Keeper.state _ new
+    (halted_log (λ now base. IfSome (g.G.WindowLog.state log).windows (λ ws. g.G.WindowLog.passes ws (at_rest (g.G.WindowLog.state log)) log now)) c.boot_fault.result _ new c.halt_at.ensures.halted c.newest.ensures.crash))
+
+pub returns-in-Err-clause-crash : goal.returns-in-Err-clause-crash
+returns-in-Err-clause-crash g c runs =
+    drops_at_last g.G.WindowLog.passes g.G.WindowLog.state g.K.Keeper.state c.args.self.now c.halt_at.new.self (λ ws b d x y w p. g.met.G.WindowLog.weakens ws ws b d x y w p) (λ ws b x y z p q. g.met.G.WindowLog.passes_on ws b x y z p q) (returns-in-Err-clause-order g c runs)
