@@ -1,5 +1,5 @@
 -- What a log over disks tells of itself.
-use Rattle.std.specs.Prelude.{◌≡◌, ℕ, ◌+◌, ◌≤◌, Bool, true, false, not, ◌&&◌, if◌then◌else◌, List, [], ◌∷◌, length, slice_get, Option, Some, None, is_some}
+use Rattle.std.specs.Prelude.{◌≡◌, ℕ, ◌+◌, ◌<◌, ◌≤◌, Bool, true, false, not, ◌&&◌, if◌then◌else◌, List, [], ◌∷◌, length, slice_get, Option, Some, None, is_some}
 use Rattle.bus_types.specs.declared.limits.TheConstants.{MAX_SCN}
 use Rattle.bus_types.specs.Window.{Span}
 use Rattle.bus_stores.specs.Log.{LogState, Bounds}
@@ -7,7 +7,7 @@ use Rattle.log_disk.specs.Disk.{DiskState}
 use Rattle.log_segment.specs.Segment.{SegmentParts, SegmentState, told, fault_count, Stands, StandsFree}
 use Rattle.log_store.specs.Log.{IsIn, AreInOrder, windows_of}
 use Rattle.log_store.specs.Crash.{Passes, HoldPart}
-use Rattle.log_store.specs.Order.{AllBelow, numbers_at, floor_at, Joined, free_place, last_place, used_at, is_full}
+use Rattle.log_store.specs.Order.{AllBelow, numbers_at, floor_at, high_at, Joined, free_place, last_place, used_at, is_full}
 use Rattle.log_store.specs.Seen.{windows_seen}
 
 -- its segments, in the order of the disks; the places of those in use, in the order of their windows; its ends; the disks as
@@ -63,6 +63,10 @@ log_of state s = record {
 -- disks that are a log with the windows of this list between its ends, which lie within these bounds.
 abbrev pub passes : {D : Type 0} → (D → DiskState) → List Span → Bounds → StoreParts D → StoreParts D → Type 0
 passes state ws b old new = Passes (λ s. state s.disk) (HoldPart ws b) old.segments new.segments
+
+-- No segment is left to give up for an SCN: where more than one is in use, the oldest has windows behind it.
+abbrev pub KeepsBehind : {D : Type 0} → ℕ → StoreParts D → Type 0
+KeepsBehind scn s = (p q : ℕ) (more : List ℕ) → s.order ≡ p ∷ q ∷ more → scn < high_at s.segments p
 
 -- ---- what is true of it
 

@@ -1,11 +1,11 @@
-ghost use Rattle.std.specs.Prelude.{◌≡◌, ℕ, ◌<◌, ◌≤◌, ◌++◌, ◌∷◌, [], List, true, length, Some, None, IfSome, Ok, OnOk, vec_capacity};
+ghost use Rattle.std.specs.Prelude.{◌≡◌, ℕ, ◌<◌, ◌≤◌, ◌++◌, ◌∷◌, [], List, true, false, length, Some, None, IfSome, Ok, OnOk, vec_capacity};
 ghost use Rattle.bus_types.specs.Window.{span_size};
 ghost use Rattle.bus_stores.specs.Log.{AppendsWindow, ReadsNext, DropsWindows, at_rest, growing_to, dropping_to};
 ghost use Rattle.log_store.specs.Joining.{AllOpened, AreOrdered};
 ghost use Rattle.log_store.specs.Opening.{disks_of, LogOpened, OpensLog, FindsSame};
 ghost use Rattle.log_store.specs.Order.{free_place, high_at, if_roomy, last_place, place_after};
 ghost use Rattle.log_store.specs.Steps.{Grows, Reads, Drops, DropsOldest};
-ghost use Rattle.log_store.specs.Store.{log_of, passes, losses_of, is_told};
+ghost use Rattle.log_store.specs.Store.{log_of, passes, losses_of, is_told, KeepsBehind};
 
 use crate::change::{append_at, begin_at, free_at, next_at};
 use crate::opening::{OpenLog, give_back, open_in_order};
@@ -203,6 +203,7 @@ impl<D: Disk> LogStore<D> {
     fn may_drop(&self, scn: u64) -> bool
         ensures many { result ≡ true → 1 < length self.now.order }
         ensures low { result ≡ true → (p : ℕ) (more : List ℕ) → self.now.order ≡ p ∷ more → high_at self.now.segments p ≤ scn }
+        ensures rest { result ≡ false → KeepsBehind scn self.now }
         ensures none { Drops D.state scn self.now self.now (Ok tt) }
     {
         let Some((oldest, rest)) = self.order.split_first() else {
@@ -305,10 +306,14 @@ impl<D: Disk> WindowLog for LogStore<D> {
         }
     }
 
+    /// Gives up the oldest segment, and again, while another is in use and it has no window behind the SCN.
     fn drop_through(&mut self, _alloc: Global, scn: u64) -> Result<(), LogFault>
         ensures drops { DropsWindows scn (log_of D.state self.old) (log_of D.state self.new) result }
         ensures crash { IfSome (log_of D.state self.old).windows (λ ws. passes D.state ws
             (dropping_to scn (log_of D.state self.old)) self.old self.new) }
+
+        // Each segment that may be given up is.
+        ensures each { OnOk result (KeepsBehind scn self.new) }
 
         // No disk is found to have lost a window.
         ensures losses { losses_of self.new.segments ≡ losses_of self.old.segments }
