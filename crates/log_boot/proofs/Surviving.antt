@@ -6,12 +6,12 @@ use Rattle.bus_types.specs.Relay.{is_place}
 use Rattle.event_codec.specs.declared.reply.Shape.TheVariants as shapes
 use Rattle.bus_stores.specs.declared.boot_fault.BootFault.{BootFault}
 use Rattle.bus_stores.specs.declared.boot_fault.BootFault.TheVariants.{LogFailed, StoreFailed, Halted, NoMemory}
-use Rattle.bus_stores.specs.Keeper.{KeeperState, Content}
+use Rattle.bus_stores.specs.Keeper.{KeeperState, Content, Move}
 use Rattle.bus_stores.specs.Log.{LogState, Bounds, at_rest, growing_to, dropping_to}
 use Rattle.snapshot_applier.specs.declared.boot.BootMark.{BootMark}
 use Rattle.bootstrap_core.specs.Boot.{BootParts, BootState, told, HoldsTable, Stands}
 use Rattle.bootstrap_core.specs.Logging.{AreWindowsBehind, IsChained, Logs, AreBrought, IsRelayReply}
-use Rattle.bootstrap_core.specs.Moving.{FindsBase, Trims, based}
+use Rattle.bootstrap_core.specs.Moving.{FindsBase, Trims, CommitsFirst, based}
 use Rattle.bootstrap_core.proofs.LogStands.{stands_taken}
 use Rattle.bootstrap_core.proofs.StandingMoves.{stretch_told, if_told}
 use Rattle.bootstrap_core.proofs.StretchEnds.{between_within}
@@ -19,7 +19,7 @@ use Rattle.log_disk.specs.Disk.{DiskState}
 use Rattle.log_store.specs.Log.{HoldLog}
 use Rattle.log_store.specs.Crash.{HoldPart, passes_weaker}
 use Rattle.log_store.specs.Store.{StoreParts, log_of, passes}
-use Rattle.log_boot.specs.Stops.{Runs, Rests, Grows, Drops, apply_commit, base_upto, trim_commit, IsEither, IsEitherBy, Survives, SurvivesStops, numbers_of}
+use Rattle.log_boot.specs.Stops.{Runs, Rests, Grows, apply_commit, base_upto, trim_commit, committed, IsEither, Survives, SurvivesStops, SurvivesTrim, numbers_of}
 use Rattle.log_boot.proofs.Lines.{IsStretch, from_low, from_high}
 use Rattle.log_boot.proofs.Marks.{Stored, stored_before, stored_in_apply, stored_trimmed}
 
@@ -92,25 +92,25 @@ module _ {D K : Type 0} (disk : D → DiskState) (store : K → KeeperState) (ws
 
   -- ---- over all moments
 
-  module _ (new : StoreParts D) (holds : Content → Type 0) where
+  module _ (start new : StoreParts D) (holds : Content → Type 0) where
     abbrev Ends : Type 0
-    Ends = SurvivesStops disk ws (numbers_of disk old) holds old.log new
+    Ends = SurvivesStops disk ws (numbers_of disk old) holds start new
 
-    over : (vs : List Span) (b : Bounds) → ((images : List (List ℕ)) → HoldPart vs b images → (d : Content) → holds d → Survives ws (numbers_of disk old) d images) → passes disk vs b old.log new → Ends
-    over vs b each p = passes_weaker (λ s. disk s.disk) (HoldPart vs b) (λ images. (d : Content) → holds d → Survives ws (numbers_of disk old) d images) old.log.segments new.segments each p
+    over : (vs : List Span) (b : Bounds) → ((images : List (List ℕ)) → HoldPart vs b images → (d : Content) → holds d → Survives ws (numbers_of disk old) d images) → passes disk vs b start new → Ends
+    over vs b each p = passes_weaker (λ s. disk s.disk) (HoldPart vs b) (λ images. (d : Content) → holds d → Survives ws (numbers_of disk old) d images) start.segments new.segments each p
 
-    pub rest_survives : Keeps holds log.floor → Rests disk old.log new → Ends
+    pub rest_survives : Keeps holds log.floor → IfSome log.windows (λ vs. passes disk vs (at_rest log) start new) → Ends
     rest_survives keeps rests =
         over held (at_rest log) (λ images p. grown held log.high refl images log.high (omega arith) holds keeps p)
-        (if_told (λ vs. passes disk vs (at_rest log) old.log new) log.windows held windows_told rests)
+        (if_told (λ vs. passes disk vs (at_rest log) start new) log.windows held windows_told rests)
 
-    pub drop_survives : (base : ℕ) → Keeps holds base → Drops disk base old.log new → Ends
+    pub drop_survives : (base : ℕ) → Keeps holds base → IfSome log.windows (λ vs. passes disk vs (dropping_to base log) start new) → Ends
     drop_survives base keeps drops =
         over held (dropping_to base log) (λ images p. dropped base images holds keeps p)
-        (if_told (λ vs. passes disk vs (dropping_to base log) old.log new) log.windows held windows_told drops)
+        (if_told (λ vs. passes disk vs (dropping_to base log) start new) log.windows held windows_told drops)
 
     pub grow_survives : (brought : List Span) → held ++ brought ≡ windows_between log.floor (end_from log.high brought) ws → Keeps holds log.floor
-        → passes disk (held ++ brought) (growing_to (end_from log.high brought) log) old.log new → Ends
+        → passes disk (held ++ brought) (growing_to (end_from log.high brought) log) start new → Ends
     grow_survives brought are keeps p =
         over (held ++ brought) (growing_to (end_from log.high brought) log)
         (λ images q. grown (held ++ brought) (end_from log.high brought) are images (end_from log.high brought) (omega arith) holds keeps q) p
@@ -156,17 +156,17 @@ module _ {D K : Type 0} (disk : D → DiskState) (store : K → KeeperState) (ws
     pub take_survives : (new : StoreParts D) → Grows disk count bytes old.log new → SurvivesStops disk ws (numbers_of disk old) (λ d. d ≡ c) old.log new
     take_survives new grows =
         let g = if_told (λ vs. (brought : List Span) × AreBrought count bytes log.high brought × passes disk (vs ++ brought) (growing_to (end_from log.high brought) log) old.log new) log.windows held windows_told grows in
-        grow_survives new (λ d. d ≡ c) g.0 (brought_are g.0 g.1) (λ d same. (old.mark, stored_before ws r.timeline old.mark log.high c r.stands.lawful table_held d same, r.stands.between.low)) g.2
+        grow_survives old.log new (λ d. d ≡ c) g.0 (brought_are g.0 g.1) (λ d same. (old.mark, stored_before ws r.timeline old.mark log.high c r.stands.lawful table_held d same, r.stands.between.low)) g.2
 
   -- ---- a call that commits nothing, or an apply
 
   pub answer_survives : (new : StoreParts D) → Rests disk old.log new → SurvivesStops disk ws (numbers_of disk old) (λ d. d ≡ c) old.log new
   answer_survives new rests =
-      rest_survives new (λ d. d ≡ c) (λ d same. (old.mark, stored_before ws r.timeline old.mark log.high c r.stands.lawful table_held d same, r.stands.between.low)) rests
+      rest_survives old.log new (λ d. d ≡ c) (λ d same. (old.mark, stored_before ws r.timeline old.mark log.high c r.stands.lawful table_held d same, r.stands.between.low)) rests
 
   pub apply_survives : (count : ℕ) (new : StoreParts D) → Rests disk old.log new → SurvivesStops disk ws (numbers_of disk old) (IsEither (apply_commit ws (numbers_of disk old) count) c) old.log new
   apply_survives count new rests =
-      rest_survives new (IsEither (apply_commit ws (numbers_of disk old) count) c)
+      rest_survives old.log new (IsEither (apply_commit ws (numbers_of disk old) count) c)
       (λ d either.
       let next = stored_in_apply ws r.timeline old.mark log.high c r.stands.lawful table_held count d either in
       let v = next.1 in
@@ -203,19 +203,36 @@ module _ {D K : Type 0} (disk : D → DiskState) (store : K → KeeperState) (ws
     trimmed_mark (Err Halted) next t = inl (ap (λ (b : BootState). b.mark) t)
     trimmed_mark (Err NoMemory) next t = inl t.1.mark
 
-    either_stores : (next : BootMark) (d : Content) → Marks next → IsEitherBy (trim_commit ws (numbers_of disk old) scn) old.mark next c d → Stores ws old.mark log.high next.base d
-    either_stores next d marks (inl after) =
+    -- until the commit is made, and after it
+    abbrev commit : Option Move
+    commit = trim_commit ws (numbers_of disk old) scn
+
+    after_stores : (next : BootMark) → Marks next → (d : Content) → d ≡ committed commit c → Stores ws old.mark log.high next.base d
+    after_stores next marks d after =
         let s = stored_trimmed ws r.timeline old.mark log.high c r.stands.lawful table_held scn d after in
         let v = s.1 in
         elim marks [
           | inl same ↦ (s.0, v, omega (arith, v.base, ap (λ (m : BootMark). m.base) same))
           | inr later ↦ (s.0, v, omega (arith, s.2, ap (λ (m : BootMark). m.base) later))
         ]
-    either_stores next d marks (inr before) =
-        (old.mark, stored_before ws r.timeline old.mark log.high c r.stands.lawful table_held d before.0, omega (arith, ap (λ (m : BootMark). m.base) before.1))
 
-    pub trim_survives : (result : Result ℕ BootFault) (new : BootParts (StoreParts D) K) → Trims result scn state (told (log_of disk) store new) → Drops disk new.mark.base old.log new.log
-        → SurvivesStops disk ws (numbers_of disk old) (IsEitherBy (trim_commit ws (numbers_of disk old) scn) old.mark new.mark c) old.log new.log
-    trim_survives result new t drops =
-        drop_survives new.log (IsEitherBy (trim_commit ws (numbers_of disk old) scn) old.mark new.mark c) new.mark.base
-        (λ d either. either_stores new.mark d (trimmed_mark result (told (log_of disk) store new) t) either) drops
+    either_stores : (d : Content) → IsEither commit c d → Stores ws old.mark log.high log.floor d
+    either_stores d (inl before) = (old.mark, stored_before ws r.timeline old.mark log.high c r.stands.lawful table_held d before, r.stands.between.low)
+    either_stores d (inr after) =
+        let s = stored_trimmed ws r.timeline old.mark log.high c r.stands.lawful table_held scn d after in
+        let v = s.1 in
+        (s.0, v, omega (arith, r.stands.between.low, v.base))
+
+    pub trim_survives : (result : Result ℕ BootFault) (new : BootParts (StoreParts D) K) → Trims result scn state (told (log_of disk) store new) → CommitsFirst (passes disk) (log_of disk) store old new
+        → SurvivesTrim disk ws (numbers_of disk old) commit c old.mark new.mark old.log new.log
+    trim_survives result new t order = record {
+      committed_at = order.read;
+      until = rest_survives old.log order.read (IsEither commit c) either_stores order.rests;
+      since = elim order.drops [
+        | inl stays ↦ inl stays
+        | inr drops ↦ inr (
+          drops.0.later,
+          drop_survives order.read new.log (λ d. d ≡ committed commit c) new.mark.base (after_stores new.mark (trimmed_mark result (told (log_of disk) store new) t)) drops.1,
+        )
+      ];
+    }

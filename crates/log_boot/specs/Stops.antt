@@ -1,10 +1,10 @@
 -- What a stop leaves of a bootstrap over a log on disks.
-use Rattle.std.specs.Prelude.{◌≡◌, ◌⊎◌, ℕ, ◌≤◌, false, nat_lt, if◌then◌else◌, min, List, ◌++◌, take, Option, Some, None, IfSome}
+use Rattle.std.specs.Prelude.{◌≡◌, ◌⊎◌, ℕ, ◌<◌, ◌≤◌, false, nat_lt, if◌then◌else◌, min, List, ◌++◌, take, Option, Some, None, IfSome}
 use Rattle.bus_types.specs.Window.{Span}
 use Rattle.bus_types.specs.Timeline.{IsTimeline, end_from, windows_between}
 use Rattle.bus_wire.specs.True.{Boot}
 use Rattle.bus_stores.specs.Keeper.{KeeperState, Content, Move, untold, moved}
-use Rattle.bus_stores.specs.Log.{LogState, at_rest, growing_to, dropping_to}
+use Rattle.bus_stores.specs.Log.{LogState, at_rest, growing_to}
 use Rattle.snapshot_applier.specs.declared.boot.BootMark.{BootMark}
 use Rattle.snapshot_applier.specs.Apply.{commit_of}
 use Rattle.bootstrap_core.specs.Boot.{BootParts, told, numbers, StandsForBoot, Stands}
@@ -40,10 +40,6 @@ abbrev pub Grows : {D : Type 0} → (D → DiskState) → ℕ → List ℕ → S
 Grows disk count reply old new = IfSome (log_of disk old).windows
     (λ held. (brought : List Span) × AreBrought count reply (log_of disk old).high brought ×
     passes disk (held ++ brought) (growing_to (end_from (log_of disk old).high brought) (log_of disk old)) old new)
-
--- or those behind a floor up to an SCN
-abbrev pub Drops : {D : Type 0} → (D → DiskState) → ℕ → StoreParts D → StoreParts D → Type 0
-Drops disk base old new = IfSome (log_of disk old).windows (λ ws. passes disk ws (dropping_to base (log_of disk old)) old new)
 
 -- ---- what a keeper may hold
 
@@ -105,3 +101,10 @@ pub record Survives (ws : List Span) (least : Boot) (c : Content) (images : List
 abbrev pub SurvivesStops : {D : Type 0} → (D → DiskState) → List Span → Boot → (Content → Type 0) → StoreParts D → StoreParts D → Type 0
 SurvivesStops disk ws least held old new =
     Passes (λ s. disk s.disk) (λ images. (d : Content) → held d → Survives ws least d images) old.segments new.segments
+
+-- The same of a trim, by its commit. Up to a state of the log, disks survive with the content before the commit and with the one after
+-- it. There the log stays; or the boot mark has moved on, and from then on they survive with the content after it.
+pub record SurvivesTrim {D : Type 0} (disk : D → DiskState) (ws : List Span) (least : Boot) (move : Option Move) (c : Content) (before after : BootMark) (old new : StoreParts D) : Type 0 where
+  pub committed_at : StoreParts D
+  pub until : SurvivesStops disk ws least (IsEither move c) old committed_at
+  pub since : (new ≡ committed_at) ⊎ ((before.base < after.base) × SurvivesStops disk ws least (λ d. d ≡ committed move c) committed_at new)

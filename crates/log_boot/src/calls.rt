@@ -5,7 +5,7 @@ ghost use Rattle.bootstrap_core.specs.Boot.{told};
 ghost use Rattle.bootstrap_core.specs.Logging.{IsRelayReply, TakesLog};
 ghost use Rattle.bootstrap_core.specs.Moving.{AppliesBoot, Trims};
 ghost use Rattle.log_store.specs.Store.{log_of};
-ghost use Rattle.log_boot.specs.Stops.{Runs, apply_commit, trim_commit, IsEither, IsEitherBy, NotBelow, SurvivesStops, numbers_of};
+ghost use Rattle.log_boot.specs.Stops.{Runs, apply_commit, trim_commit, IsEither, NotBelow, SurvivesStops, SurvivesTrim, numbers_of};
 
 use crate::laws::{a_bootstrap_goes_on, a_bootstrap_survives_a_stop};
 use bootstrap_core::{Boot, BootFault, TakeLog};
@@ -59,9 +59,9 @@ pub fn apply<D: Disk, K: Keeper>(
 }
 
 /// As `Boot::trim`, over a log on disks. Where the bootstrap ran for a timeline, a stop of the disks at any moment of the call
-/// leaves what it is opened from again, with what the keeper holds after the commit of the later base; or with what it held
-/// before, where the bootstrap's boot mark hasn't moved on, as after a commit that failed. It runs on afterwards, unless it is
-/// halted, and none of its numbers falls.
+/// leaves what it is opened from again, with what the keeper may hold at that moment: until the commit of the later base is made,
+/// what it held before or holds after it, and from then on the latter. After a commit that failed the log stays. It runs on
+/// afterwards, unless it is halted, and none of its numbers falls.
 pub fn trim<D: Disk, K: Keeper>(
     alloc: Global,
     boot: &mut Boot<LogStore<D>, K>,
@@ -69,7 +69,7 @@ pub fn trim<D: Disk, K: Keeper>(
 ) -> Result<u64, BootFault>
     ensures trims { Trims result scn (told (log_of D.state) K.state boot.old) (told (log_of D.state) K.state boot.new) }
     ensures survives { (ws : List Span) (c : Content) → Runs D.state K.state ws c boot.old
-        → SurvivesStops D.state ws (numbers_of D.state boot.old) (IsEitherBy (trim_commit ws (numbers_of D.state boot.old) scn) boot.old.mark boot.new.mark c) boot.old.log boot.new.log }
+        → SurvivesTrim D.state ws (numbers_of D.state boot.old) (trim_commit ws (numbers_of D.state boot.old) scn) c boot.old.mark boot.new.mark boot.old.log boot.new.log }
     ensures goes_on { (ws : List Span) (c d : Content) → Runs D.state K.state ws c boot.old → boot.new.halted ≡ false
         → (K.state boot.new.keeper).content ≡ Some d
         → Runs D.state K.state ws d boot.new × NotBelow (numbers_of D.state boot.old) (numbers_of D.state boot.new) }

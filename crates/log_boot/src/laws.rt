@@ -6,9 +6,9 @@ ghost use Rattle.bus_stores.specs.declared.boot_fault.BootFault.{BootFault as Fa
 ghost use Rattle.bootstrap_core.specs.declared.fault.TakeLog.{TakeLog as TakeFault};
 ghost use Rattle.bootstrap_core.specs.Boot.{BootParts, told, Stands};
 ghost use Rattle.bootstrap_core.specs.Logging.{IsRelayReply, TakesLog};
-ghost use Rattle.bootstrap_core.specs.Moving.{AppliesBoot, Trims};
-ghost use Rattle.log_store.specs.Store.{StoreParts, log_of};
-ghost use Rattle.log_boot.specs.Stops.{Runs, Rests, Grows, Drops, apply_commit, trim_commit, IsEither, IsEitherBy, NotBelow, SurvivesStops, numbers_of};
+ghost use Rattle.bootstrap_core.specs.Moving.{AppliesBoot, Trims, CommitsFirst};
+ghost use Rattle.log_store.specs.Store.{StoreParts, log_of, passes};
+ghost use Rattle.log_boot.specs.Stops.{Runs, Rests, Grows, apply_commit, trim_commit, IsEither, IsEitherBy, NotBelow, SurvivesStops, SurvivesTrim, numbers_of};
 
 use bus_stores::Keeper;
 use log_disk::Disk;
@@ -19,8 +19,9 @@ use log_disk::Disk;
 /// call.
 ///
 /// A keeper that is stopped holds the content from before the call's commit or after it. Through `take_log` and `answer` there is
-/// none; through `apply` it is that of the next windows. Through `trim` it is that of the later base, and the disks may have
-/// begun to drop windows only where it was answered Ok: so where the boot mark has moved on, the content is the one after it.
+/// none; through `apply` it is that of the next windows, and the disks survive with either at each moment. Through `trim` it is
+/// that of the later base: until it is made they survive with either, and from then on, when they may drop windows, with the one
+/// after it.
 pub fn a_bootstrap_survives_a_stop<D: Disk, K: Keeper>()
     ensures take_log { (ws : List Span) (c : Content) (n : ℕ) (reply : List ℕ) (old new : BootParts (StoreParts D) K) → Runs D.state K.state ws c old
         → IsRelayReply ws (log_of D.state old.log).high reply → Grows D.state n reply old.log new.log
@@ -31,8 +32,9 @@ pub fn a_bootstrap_survives_a_stop<D: Disk, K: Keeper>()
     ensures answer { (ws : List Span) (c : Content) (old new : BootParts (StoreParts D) K) → Runs D.state K.state ws c old → Rests D.state old.log new.log
         → SurvivesStops D.state ws (numbers_of D.state old) (λ d. d ≡ c) old.log new.log }
     ensures trim { (ws : List Span) (c : Content) (scn : ℕ) (result : Result ℕ FaultValue) (old new : BootParts (StoreParts D) K) → Runs D.state K.state ws c old
-        → Trims result scn (told (log_of D.state) K.state old) (told (log_of D.state) K.state new) → Drops D.state new.mark.base old.log new.log
-        → SurvivesStops D.state ws (numbers_of D.state old) (IsEitherBy (trim_commit ws (numbers_of D.state old) scn) old.mark new.mark c) old.log new.log }
+        → Trims result scn (told (log_of D.state) K.state old) (told (log_of D.state) K.state new)
+        → CommitsFirst (passes D.state) (log_of D.state) K.state old new
+        → SurvivesTrim D.state ws (numbers_of D.state old) (trim_commit ws (numbers_of D.state old) scn) c old.mark new.mark old.log new.log }
 
     // What the keeper tells after an apply or a trim is one of those contents.
     ensures applied { (ws : List Span) (c : Content) (n : ℕ) (result : Result ℕ FaultValue) (old new : BootParts (StoreParts D) K) → Runs D.state K.state ws c old

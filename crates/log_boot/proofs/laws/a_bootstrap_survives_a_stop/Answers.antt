@@ -9,7 +9,7 @@ returns g c = record {
   take_log = λ ws content n reply old new r true grows. take_survives g.D.Disk.state g.K.Keeper.state ws content old r n reply true new.log grows;
   apply = λ ws content n old new r rests. apply_survives g.D.Disk.state g.K.Keeper.state ws content old r n new.log rests;
   answer = λ ws content old new r rests. answer_survives g.D.Disk.state g.K.Keeper.state ws content old r new.log rests;
-  trim = λ ws content scn result old new r trims drops. trim_survives g.D.Disk.state g.K.Keeper.state ws content old r scn result new trims drops;
+  trim = λ ws content scn result old new r trims order. trim_survives g.D.Disk.state g.K.Keeper.state ws content old r scn result new trims order;
   applied = λ ws content n result old new r applies. apply_keeps g.D.Disk.state g.K.Keeper.state ws content old r n (told (log_of g.D.Disk.state) g.K.Keeper.state new) result applies;
   trimmed = λ ws content scn result old new r trims. trim_keeps g.D.Disk.state g.K.Keeper.state ws content old r scn (told (log_of g.D.Disk.state) g.K.Keeper.state new) result trims;
 }
