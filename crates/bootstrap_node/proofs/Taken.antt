@@ -5,7 +5,7 @@ use Rattle.bus_types.specs.Causes.{Rose}
 use Rattle.bus_types.specs.Window.{Span}
 use Rattle.bus_types.specs.Timeline.{IsTimeline}
 use Rattle.bus_stores.specs.Keeper.{KeeperState, Content, Move, TellsOnly, content_after, move_of}
-use Rattle.bus_stores.specs.Log.{LogState}
+use Rattle.bus_stores.specs.Log.{LogState, IsLog}
 use Rattle.bus_stores.specs.Taking.{LeavesBy}
 use Rattle.bus_stores.proofs.Held.{told_on}
 use Rattle.snapshot_applier.specs.declared.boot.BootMark.{BootMark}
@@ -93,10 +93,11 @@ stored_by (w ∷ ws) m next old new e lawful meets s = committed (move_of false 
 pub stored_moved : (n applied : ℕ) (old new : BootState) → AppliesNext applied n old new → IsBootMark new.mark → Stores old.keeper old.mark → Stores new.keeper new.mark
 stored_moved n applied old new a lawful s = stored_by a.keeper.windows old.mark new.mark old.keeper new.keeper a.keeper.mark lawful a.keeper.made s
 
-pub moves : (applied : ℕ) (old new : BootState) → AppliesNext applied most_logged old new → IsBootMark new.mark
+pub moves : (applied : ℕ) (old new : BootState) → AppliesNext applied most_logged old new → IsBootMark new.mark → IsLog new.log
     → ((ws : List Span) → IsTimeline ws → Stands ws old → TellsWindows old.log → Stands ws new) → Moves old new
-moves applied old new a lawful stands = record {
+moves applied old new a lawful is_log stands = record {
   applies = record { keeper = a.keeper; log = a.log; runs = a.runs; number = refl };
+  log = is_log;
   stored = stored_moved most_logged applied old new a lawful;
   stands = stands;
 }
@@ -113,6 +114,7 @@ taken took body old logged new t none m stands =
       takes = t;
       goes_on = on;
       applies = m.applies;
+      log = m.log;
       stored = λ s. m.stored (rw (kept.keeper, kept.mark) s);
       tells = λ tells. ap (λ (l : LogState). is_some l.windows) m.applies.log ∙ kept.tells ∙ tells;
       stands = λ ws line stood tells reply. m.stands ws line (stands ws line stood reply) (kept.tells ∙ tells);

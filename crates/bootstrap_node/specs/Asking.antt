@@ -6,6 +6,7 @@ use Rattle.bus_types.specs.Window.{Span}
 use Rattle.bus_types.specs.Timeline.{IsTimeline}
 use Rattle.bus_link.specs.Links.{Told}
 use Rattle.bus_wire.specs.declared.ask.Ask.{Ask}
+use Rattle.bus_stores.specs.Log.{IsLog}
 use Rattle.bootstrap_core.specs.declared.fault.TakeLog.{TakeLog}
 use Rattle.bootstrap_core.specs.declared.fault.TakeLog.TheVariants as takes
 use Rattle.bootstrap_core.specs.Boot.{BootState, Stands}
@@ -29,6 +30,7 @@ AsksNot given left written NoMemory ask port old new faults faults' = Unit {0}
 -- the next logged windows were applied
 pub record Moves (old new : BootState) : Type 0 where
   pub applies : AppliesNext new.mark.applied most_logged old new
+  pub log : IsLog new.log
   pub stored : Stores old.keeper old.mark → Stores new.keeper new.mark
   pub stands : (ws : List Span) → IsTimeline ws → Stands ws old → TellsWindows old.log → Stands ws new
 

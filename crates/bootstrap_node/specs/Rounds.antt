@@ -6,6 +6,7 @@ use Rattle.bus_types.specs.Window.{Span}
 use Rattle.bus_types.specs.Timeline.{IsTimeline}
 use Rattle.bus_link.specs.Links.{Told}
 use Rattle.trace_script.specs.Printed.{line_with, gap_line}
+use Rattle.bus_stores.specs.Log.{IsLog}
 use Rattle.bootstrap_core.specs.declared.fault.TakeLog.{TakeLog}
 use Rattle.bootstrap_core.specs.declared.fault.TakeLog.TheVariants.{BadReply, Gap, Full, LogFailed, Halted, NoMemory}
 use Rattle.bootstrap_core.specs.Boot.{BootState, Stands}
@@ -101,12 +102,13 @@ pub record Round (P : Type 0) : Type 0 where
   pub logged : BootState
   pub boot : BootState
 
--- up to 32 windows of a reply were logged, and up to 32 logged ones applied; the stored mark is the boot mark still. One that
--- stands for a timeline still does after a reply that is true of it.
+-- up to 32 windows of a reply were logged, and up to 32 logged ones applied; the log is one still, and the stored mark is the boot
+-- mark still. One that stands for a timeline still does after a reply that is true of it.
 pub record IsTaken (old : BootState) (body : List ℕ) (took : Result ℕ TakeLog) (logged new : BootState) : Type 0 where
   pub takes : TakesLog took most_logged body old logged
   pub goes_on : GoesOn took
   pub applies : AppliesNext new.mark.applied most_logged logged new
+  pub log : IsLog new.log
   pub stored : Stores old.keeper old.mark → Stores new.keeper new.mark
   pub tells : TellsWindows old.log → TellsWindows new.log
   pub stands : (ws : List Span) → IsTimeline ws → Stands ws old → TellsWindows old.log → IsRelayReply ws old.log.high body → Stands ws new

@@ -156,6 +156,7 @@ fn move_table<G: WindowLog, K: Keeper>(alloc: Global, boot: &mut Boot<G, K>) -> 
 {
     let moved = boot.apply(alloc, MOST_LOGGED);
     let _lawful = boot.base();
+    let _is_log = boot.high();
     match moved {
         Ok(_) => Ok(()),
         Err(BootFault::LogFailed) => Err(Stop::StoreFault),
