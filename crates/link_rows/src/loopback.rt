@@ -8,37 +8,67 @@ pub fn show_loopback(rt: &HostRuntime) -> Result<(), Fail> {
     let listener = TcpListener::bind(rt, "127.0.0.1:0")?;
     let port = listener.local_addr()?.port();
     let mut link = TcpLink::over(rt, listener);
+    show_link(rt, &mut link, port)
+}
+
+// Takes a ping at the one door of a link to a port.
+fn show_link(rt: &HostRuntime, link: &mut impl Link, port: u16) -> Result<(), Fail> {
     let Ok(doors) = link.listen(rt.alloc(), port, 1) else {
         return Err(Fail::new("no doors"));
     };
-    for mut door in doors {
-        show_ping(rt, &mut link, &mut door, port)?;
-        link.shut(door);
+    for door in doors {
+        show_door(rt, link, door, port)?;
     }
     Ok(())
 }
 
-// Connects, accepts, sends four bytes and hangs up, and reads what came.
+// Takes a ping at a door, and shuts it.
+fn show_door<L: Link>(
+    rt: &HostRuntime,
+    link: &mut L,
+    mut door: L::Door,
+    port: u16,
+) -> Result<(), Fail> {
+    let shown = show_ping(rt, link, &mut door, port);
+    link.shut(door);
+    shown
+}
+
+// Sends a ping to a port, and takes it at a door.
 fn show_ping(
     rt: &HostRuntime,
     link: &mut impl Link,
     door: &mut impl Accept,
     port: u16,
 ) -> Result<(), Fail> {
+    send_ping(link, port)?;
+    show_peer(rt, door)
+}
+
+// Connects, sends four bytes and hangs up.
+fn send_ping(link: &mut impl Link, port: u16) -> Result<(), Fail> {
     let Ok(mut near) = link.connect(port) else {
         return Err(Fail::new("no connection"));
     };
+    let sent = write_all(&mut near, b"ping");
+    link.hang_up(near);
+    sent.map_err(|_| Fail::new("a failed write"))
+}
+
+// Accepts, reads what came, and hands the connection back.
+fn show_peer(rt: &HostRuntime, door: &mut impl Accept) -> Result<(), Fail> {
     let Ok(mut far) = door.accept() else {
         return Err(Fail::new("nothing to accept"));
     };
-    let Ok(()) = write_all(&mut near, b"ping") else {
-        return Err(Fail::new("a failed write"));
-    };
-    link.hang_up(near);
-    show_read(rt, &mut far)?;
-    show_read(rt, &mut far)?;
+    let shown = show_reads(rt, &mut far);
     door.finish(far);
-    Ok(())
+    shown
+}
+
+// Reads the bytes, and then the end.
+fn show_reads(rt: &HostRuntime, from: &mut impl Source) -> Result<(), Fail> {
+    show_read(rt, from)?;
+    show_read(rt, from)
 }
 
 // Reads up to four bytes, and prints what came.
