@@ -6,7 +6,7 @@ use Rattle.bus_types.specs.declared.window.WindowFault.TheVariants.{BadScn, Empt
 use Rattle.bus_types.specs.declared.limits.TheConstants.{MAX_SCN, MAX_CHANGES, MAX_WINDOW}
 use Rattle.bus_types.specs.Change.{AreChanges}
 use Rattle.bus_types.specs.Window.{Span, span_size, bad_scn, window_fault}
-use Rattle.bus_types.specs.Timeline.{Follows, IsTimeline, IsTimelineFrom, end_from, end_of, windows_between}
+use Rattle.bus_types.specs.Timeline.{Follows, IsTimeline, IsTold, IsTimelineFrom, end_from, end_of, windows_between}
 use Rattle.bus_types.specs.Relay.{Relay, Room, new_relay, published, StandsFor}
 use Rattle.bus_types.proofs.Stretches.{end_from-append, between_in, between_before, between_past, between-append, timelines_joined}
 use Rattle.bus_types.proofs.Floors.{stands_fresh, stands_published}
@@ -18,7 +18,7 @@ use Rattle.trace_script.specs.Input.{RawLine, is_too_long, lines_of}
 use Rattle.trace_script.specs.Lines.{line_of}
 use Rattle.trace_script.specs.Spelling.{Spells}
 use Rattle.trace_script.proofs.LineTexts.{line_taken}
-use Rattle.relay_node.specs.Feeding.{Given, Fed, most_windows, last_generated, line_gives, read_gives, text_gives, feed_on, fed_from, fed, relay_after}
+use Rattle.relay_node.specs.Feeding.{Given, Fed, most_windows, last_generated, line_gives, read_gives, text_gives, feed_on, fed_from, fed, windows_of, relay_after}
 use Rattle.relay_node.specs.Feeding.Given.{Windows, Bad, Wrong}
 use Rattle.relay_node.proofs.Published.{relay_after-tail}
 
@@ -113,6 +113,11 @@ lines_timeline last windows count used (line ∷ lines) =
 pub fed_timeline : (bytes : List ℕ) → IsTimeline (fed bytes).windows
 fed_timeline bytes = lines_timeline 0 0 0 0 (lines_of bytes)
 
+-- of an input that tells its bytes
+pub told_timeline : (input : Option (List ℕ)) → IsTold (windows_of input)
+told_timeline None = tt
+told_timeline (Some bytes) = fed_timeline bytes
+
 -- ---- the relay
 
 timeline_parts : (prev : ℕ) (xs ys : List Span) → IsTimelineFrom prev (xs ++ ys) → IsTimelineFrom prev xs × IsTimelineFrom (end_from prev xs) ys
@@ -139,11 +144,12 @@ stands_after all done (w ∷ ws) r t e tail s =
     let next : windows_between r.tail w.scn all ≡ w ∷ [] = (λ i. windows_between (tail i) w.scn (e i)) ∙ next_alone done w ws (subst IsTimeline e t) in
     stands_after all (done ++ w ∷ []) ws (published r w) t (e ∙ sym (append_assoc done (w ∷ []) ws)) (sym (end_from-append 0 done (w ∷ []))) (stands_published all r w s next)
 
+-- of all windows of a timeline
+pub all_stand : (room : Room) (ws : List Span) → IsTimeline ws → StandsFor ws (relay_after (new_relay room) ws)
+all_stand room ws t = stands_after ws [] ws (new_relay room) t refl refl (stands_fresh ws room t)
+
 pub fed_stands : (room : Room) (bytes : List ℕ) (r : Relay) → r ≡ relay_after (new_relay room) (fed bytes).windows → StandsFor (fed bytes).windows r
-fed_stands room bytes r e =
-    let ws = (fed bytes).windows in
-    let t = fed_timeline bytes in
-    subst (StandsFor ws) (sym e) (stands_after ws [] ws (new_relay room) t refl refl (stands_fresh ws room t))
+fed_stands room bytes r e = subst (StandsFor (fed bytes).windows) (sym e) (all_stand room (fed bytes).windows (fed_timeline bytes))
 
 -- the newest window is the last one
 pub fed_tail : (room : Room) (bytes : List ℕ) (r : Relay) → r ≡ relay_after (new_relay room) (fed bytes).windows → r.tail ≡ end_of (fed bytes).windows

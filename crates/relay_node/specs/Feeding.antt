@@ -1,5 +1,5 @@
 -- What the input of a relay means: the windows that its lines give, and how it ends.
-use Rattle.std.specs.Prelude.{ℕ, ◌+◌, if◌then◌else◌, nat_lt, nat_le, List, [], ◌∷◌, ◌++◌, length, Option, Some, None, is_some}
+use Rattle.std.specs.Prelude.{ℕ, ◌+◌, if◌then◌else◌, nat_lt, nat_le, List, [], ◌∷◌, ◌++◌, length, Option, Some, None, option_map, is_some}
 use Rattle.bus_types.specs.declared.change.Change.{Change}
 use Rattle.bus_types.specs.Window.{Span, window_fault}
 use Rattle.bus_types.specs.Timeline.{end_from}
@@ -95,6 +95,10 @@ fed_from last windows count used (line ∷ lines) =
 -- what an input means
 abbrev pub fed : List ℕ → Fed
 fed bytes = fed_from 0 0 0 0 (lines_of bytes)
+
+-- the windows of an input, where it is told
+abbrev pub windows_of : Option (List ℕ) → Option (List Span)
+windows_of input = option_map (λ bytes. (fed bytes).windows) input
 
 -- ---- the relay
 

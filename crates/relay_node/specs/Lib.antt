@@ -4,3 +4,4 @@ pub mod Node
 pub mod Pieces
 pub mod Reading
 pub mod Doorway
+pub mod Passing

@@ -8,7 +8,7 @@ use Rattle.trace_script.specs.Printed.{relay_line}
 use Rattle.bus_link.specs.Links.{Told}
 use Rattle.bus_node.specs.declared.status.NodeStatus.{NodeStatus}
 use Rattle.bus_node.specs.declared.status.NodeStatus.TheVariants.{Done, Usage, BadLine, ReadFault, WriteFault, NoMemory, TooLong, LinkFault, StoreFault, WrongWord, BadAnswer, BadReply, BadMark, Ahead, Hole}
-use Rattle.relay_node.specs.Feeding.{Ending, fed, relay_after}
+use Rattle.relay_node.specs.Feeding.{Ending, fed, windows_of, relay_after}
 use Rattle.relay_node.specs.Feeding.Ending.{Finished}
 use Rattle.relay_node.specs.Serving.{ServesAll, ServesFew}
 
@@ -40,7 +40,7 @@ module _ {P : Type 0} (given left written : P → Option (List ℕ)) where
     pub relay : Relay
     pub fed : IsFed room input relay
     pub end : IsAtEnd rest
-    pub serves : ServesAll given left written port connections relay before after
+    pub serves : ServesAll given left written (windows_of input) port connections relay before after
     pub printed : Printed (relay_line relay.floor relay.tail)
 
   -- the whole input was published, and the relay was served over at most so many connections
@@ -48,7 +48,7 @@ module _ {P : Type 0} (given left written : P → Option (List ℕ)) where
     pub relay : Relay
     pub fed : IsFed room input relay
     pub end : IsAtEnd rest
-    pub serves : ServesFew given left written port connections relay before after
+    pub serves : ServesFew given left written (windows_of input) port connections relay before after
 
   -- or the link did not listen
   abbrev pub RelayedSome : Room → ℕ → ℕ → Option (List ℕ) → Option (List ℕ) → Option (Told P) → Option (Told P) → Type 0

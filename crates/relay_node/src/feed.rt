@@ -1,14 +1,15 @@
-ghost use Rattle.std.specs.Prelude.{◌≡◌, ◌<◌, ◌≤◌, [], length, IfOk, IfErr, IfSome, IfNone, OnOk};
+ghost use Rattle.std.specs.Prelude.{◌≡◌, ◌<◌, [], length, IfOk, IfErr, IfSome, IfNone, OnOk};
 ghost use Rattle.trace_script.specs.Cutting.{new_cut};
-ghost use Rattle.bus_types.specs.Relay.{new_relay};
-ghost use Rattle.relay_node.specs.Feeding.{text_gives};
+ghost use Rattle.range_ring.specs.Belonging.{new_feeder};
 ghost use Rattle.relay_node.specs.Feeding.Ending.{Finished};
-ghost use Rattle.relay_node.specs.Pieces.{At, TakesLine, TakesPart, StopsAt, EndsIn, IsWithin, runs, cut_stop};
+ghost use Rattle.relay_node.specs.Pieces.{new_sent, next_gives, StandNext, TakesLine, TakesPart, LeadsTo, StopsAt, EndsIn, IsWithin, runs, cut_stop};
 
 use crate::line::{LineStop, take_text};
-use bus_types::NoMemory;
-use relay_core::Buffer;
+use crate::publisher::Publisher;
+use bus_types::Timeline;
+use range_ring::{Feeder, Ring};
 use std::alloc::Global;
+use std::sync::Wait;
 use trace_script::{CutFault, LineCutter};
 
 /// Why an input stopped.
@@ -37,42 +38,35 @@ impl From<CutFault> for Stop {
     }
 }
 
-/// A buffer that is fed by an input as it comes in pieces.
+/// What is fed by an input as it comes in pieces, and publishes its windows on a ring.
 #[derive(Drop)]
-pub(crate) struct Feed<B> {
-    /// The buffer.
-    pub buffer: B,
-    /// How many windows it published.
-    pub count: u64,
+pub(crate) struct Feed<'r, R, T: Timeline> {
+    /// What publishes the windows.
+    pub publisher: Publisher<'r, R, T>,
     /// What has come of the next line.
     pub lines: LineCutter,
 }
 
-impl<B: Buffer> Feed<B> {
-    /// A new buffer, of whose input nothing has come.
-    pub fn new(alloc: Global, bytes: u64, windows: u32) -> Result<Feed<B>, NoMemory>
-        requires least_bytes { 1048576 ≤ bytes }
-        requires most_bytes { bytes ≤ 268435456 }
-        requires least_windows { 1 ≤ windows }
-        requires most_windows { windows ≤ 65536 }
-        ensures buffer { IfOk result (λ feed. B.relay feed.buffer ≡ new_relay (record { bytes = bytes; windows = windows })) }
-        ensures count { IfOk result (λ feed. feed.count ≡ 0) }
-        ensures lines { IfOk result (λ feed. feed.lines ≡ new_cut) }
+impl<'r, R: Wait, T: Timeline> Feed<'r, R, T> {
+    /// What publishes on a new ring, where nothing has come of the input.
+    pub fn new(rt: &'r R, alloc: Global, ring: &'r Ring<T>, feeder: Feeder<T>) -> Feed<'r, R, T>
+        requires { feeder ≡ new_feeder ring.now }
+        ensures sent { result.publisher ≡ new_sent ring.now }
+        ensures lines { result.lines ≡ new_cut }
     {
-        Ok(Feed {
-            buffer: B::new(alloc, bytes, windows)?,
-            count: 0,
+        Feed {
+            publisher: Publisher::new(rt, ring, feeder),
             lines: LineCutter::new(alloc),
-        })
+        }
     }
 
     /// Publishes the windows of the lines in the next piece of the input.
     pub fn take(&mut self, alloc: Global, piece: &[u8]) -> Result<(), Stop>
-        requires within { IsWithin (record { relay = B.relay self.old.buffer; windows = self.old.count; lines = self.old.lines }) }
-        ensures takes { OnOk result (TakesPart (record { relay = B.relay self.old.buffer; windows = self.old.count; lines = self.old.lines }) piece.now
-            (record { relay = B.relay self.new.buffer; windows = self.new.count; lines = self.new.lines }) []) }
-        ensures stops { IfErr result (λ stop. StopsAt stop (EndsIn
-            (record { relay = B.relay self.old.buffer; windows = self.old.count; lines = self.old.lines }) piece.now)) }
+        requires within { IsWithin (record { sent = self.old.publisher; lines = self.old.lines }) }
+        requires leads { LeadsTo T.told (record { sent = self.old.publisher; lines = self.old.lines }) piece.now }
+        ensures takes { OnOk result (TakesPart (record { sent = self.old.publisher; lines = self.old.lines }) piece.now
+            (record { sent = self.new.publisher; lines = self.new.lines }) []) }
+        ensures stops { IfErr result (λ stop. StopsAt stop (EndsIn (record { sent = self.old.publisher; lines = self.old.lines }) piece.now)) }
     {
         let mut rest = piece;
         while let Some(after) = self.take_next(alloc, rest)? {
@@ -83,16 +77,14 @@ impl<B: Buffer> Feed<B> {
 
     // Takes the first line of a piece, and answers what stands behind it; or holds the piece, where it ends no line.
     fn take_next<'a>(&mut self, alloc: Global, piece: &'a [u8]) -> Result<Option<&'a [u8]>, Stop>
-        requires within { IsWithin (record { relay = B.relay self.old.buffer; windows = self.old.count; lines = self.old.lines }) }
-        ensures took { IfOk result (λ next. IfSome next (λ rest. TakesPart
-            (record { relay = B.relay self.old.buffer; windows = self.old.count; lines = self.old.lines }) piece.now
-            (record { relay = B.relay self.new.buffer; windows = self.new.count; lines = self.new.lines }) rest.now)) }
-        ensures held { IfOk result (λ next. IfNone next (TakesPart
-            (record { relay = B.relay self.old.buffer; windows = self.old.count; lines = self.old.lines }) piece.now
-            (record { relay = B.relay self.new.buffer; windows = self.new.count; lines = self.new.lines }) [])) }
+        requires within { IsWithin (record { sent = self.old.publisher; lines = self.old.lines }) }
+        requires leads { LeadsTo T.told (record { sent = self.old.publisher; lines = self.old.lines }) piece.now }
+        ensures took { IfOk result (λ next. IfSome next (λ rest. TakesPart (record { sent = self.old.publisher; lines = self.old.lines }) piece.now
+            (record { sent = self.new.publisher; lines = self.new.lines }) rest.now)) }
+        ensures held { IfOk result (λ next. IfNone next (TakesPart (record { sent = self.old.publisher; lines = self.old.lines }) piece.now
+            (record { sent = self.new.publisher; lines = self.new.lines }) [])) }
         ensures shorter { IfOk result (λ next. IfSome next (λ rest. length rest.now < length piece.now)) }
-        ensures stops { IfErr result (λ stop. StopsAt stop (EndsIn
-            (record { relay = B.relay self.old.buffer; windows = self.old.count; lines = self.old.lines }) piece.now)) }
+        ensures stops { IfErr result (λ stop. StopsAt stop (EndsIn (record { sent = self.old.publisher; lines = self.old.lines }) piece.now)) }
     {
         let Some((end, rest)) = self.lines.take(piece)? else {
             // What is held is within the limits of an input.
@@ -101,39 +93,38 @@ impl<B: Buffer> Feed<B> {
         };
         let line = self.lines.line(end);
         let number = self.lines.number();
-        take_numbered(alloc, number, line, &mut self.buffer, &mut self.count)?;
+        take_numbered(alloc, number, line, &mut self.publisher)?;
         self.lines.pass(end);
         Ok(Some(rest))
     }
 
     /// Publishes the windows of the last line, where it has come without its LF.
     pub fn finish(&mut self, alloc: Global) -> Result<(), Stop>
-        requires within { IsWithin (record { relay = B.relay self.old.buffer; windows = self.old.count; lines = self.old.lines }) }
-        ensures done { OnOk result (runs (record { relay = B.relay self.old.buffer; windows = self.old.count; lines = self.old.lines }) []
-            ≡ record { relay = B.relay self.new.buffer; ending = Finished }) }
-        ensures stops { IfErr result (λ stop. StopsAt stop (λ ending. (runs
-            (record { relay = B.relay self.old.buffer; windows = self.old.count; lines = self.old.lines }) []).ending ≡ ending)) }
+        requires within { IsWithin (record { sent = self.old.publisher; lines = self.old.lines }) }
+        requires ends { IfSome T.told (λ windows. (runs (record { sent = self.old.publisher; lines = self.old.lines }) []).sent.windows ≡ windows) }
+        ensures done { OnOk result (runs (record { sent = self.old.publisher; lines = self.old.lines }) []
+            ≡ record { sent = self.new.publisher; ending = Finished }) }
+        ensures stops { IfErr result (λ stop. StopsAt stop (λ ending. (runs (record { sent = self.old.publisher; lines = self.old.lines }) []).ending ≡ ending)) }
     {
         let Some(line) = self.lines.last() else {
             return Ok(());
         };
         let number = self.lines.number();
-        take_numbered(alloc, number, line, &mut self.buffer, &mut self.count)
+        take_numbered(alloc, number, line, &mut self.publisher)
     }
 }
 
 // Publishes the windows of the line of this number.
-fn take_numbered<B: Buffer>(
+fn take_numbered<R: Wait, T: Timeline>(
     alloc: Global,
     number: u64,
     line: &[u8],
-    buffer: &mut B,
-    count: &mut u64,
+    publisher: &mut Publisher<'_, R, T>,
 ) -> Result<(), Stop>
-    ensures { TakesLine result number (text_gives (B.relay buffer.old).tail count.old line.now) (B.relay buffer.old) count.old
-        (B.relay buffer.new) count.new }
+    requires { StandNext T.told publisher.old (next_gives publisher.old line.now) }
+    ensures { TakesLine result number (next_gives publisher.old line.now) publisher.old publisher.new }
 {
-    match take_text(alloc, line, buffer, count) {
+    match take_text(alloc, line, publisher) {
         Ok(()) => Ok(()),
         Err(LineStop::BadLine) => Err(Stop::BadLine(number)),
         Err(LineStop::WrongWord) => Err(Stop::WrongWord(number)),

@@ -1,15 +1,20 @@
-ghost use Rattle.std.specs.Prelude.{◌≡◌, ◌+◌, ◌<◌, ◌≤◌, length, IfOk, IfErr, IsErrOf, OnOk};
+ghost use Rattle.std.specs.Prelude.{◌≡◌, ◌+◌, ◌<◌, ◌≤◌, length, option_map, IfOk, IfErr, IsErrOf, OnOk};
 ghost use Rattle.std.specs.Io.KnownBytes.{IsAtEnd};
 ghost use Rattle.bus_types.specs.Causes.{Rose, HasCause};
+ghost use Rattle.range_ring.specs.Words.{room_of};
+ghost use Rattle.range_ring.specs.Belonging.{new_feeder, fresh_pass};
+ghost use Rattle.relay_node.specs.Feeding.{windows_of};
 ghost use Rattle.relay_node.specs.Node.{IsFed, EndsAt};
-ghost use Rattle.relay_node.specs.Pieces.{At};
+ghost use Rattle.relay_node.specs.Pieces.{runs};
 ghost use Rattle.relay_node.specs.Reading.{ReadsAll, ReadsOn, EndsSo, HaltsAt, Settles};
 
 use crate::feed::{Feed, Stop};
+use crate::relaying::Relaying;
 use bus_io::Source;
-use bus_types::{Failed, NoMemory};
-use relay_core::Buffer;
+use bus_types::{Failed, Timeline};
+use range_ring::{Feeder, Pass, Ring};
 use std::alloc::Global;
+use std::sync::Wait;
 
 /// How many bytes of the input are asked for at a time.
 const PIECE: usize = 65_536;
@@ -17,29 +22,28 @@ const PIECE: usize = 65_536;
 /// The most bytes of an input.
 const LONGEST_INPUT: u64 = 16_777_216;
 
-/// A new buffer, with room for so many bytes and windows, that published the windows of the whole input. Where a line is at
-/// fault, the input is read on before it is told: up to its end, or until more has come than an input may have.
-pub(crate) fn publish_input<B: Buffer + Drop, S: Source>(
+/// The relay of the whole input, whose windows it publishes on a new ring. Where a line is at fault, the input is read on before it
+/// is told: up to its end, or until more has come than an input may have. Where windows are told, they are those of the input.
+pub(crate) fn publish_input<'r, R: Wait, T: Timeline, S: Source>(
+    rt: &'r R,
     alloc: Global,
-    bytes: u64,
-    windows: u32,
+    ring: &'r Ring<T>,
+    feeder: Feeder<T>,
+    pass: Pass<T>,
     input: &mut S,
-) -> Result<B, Stop>
-    requires least_bytes { 1048576 ≤ bytes }
-    requires most_bytes { bytes ≤ 268435456 }
-    requires least_windows { 1 ≤ windows }
-    requires most_windows { windows ≤ 65536 }
-    ensures fed { IfOk result (λ buffer. IsFed (record { bytes = bytes; windows = windows }) (S.left input.old) (B.relay buffer)) }
+) -> Result<Relaying<'r, R, T>, Stop>
+    requires feeder { feeder ≡ new_feeder ring.now }
+    requires pass { pass ≡ fresh_pass ring.now }
+    requires told { T.told ≡ windows_of (S.left input.old) }
+    ensures fed { IfOk result (λ relay. IsFed (room_of ring.now.limits) (S.left input.old) relay) }
     ensures end { OnOk result (IsAtEnd (S.left input.new)) }
     ensures halts { IfErr result (λ stop. HaltsAt stop (λ ending. EndsAt ending (S.left input.old) (S.left input.new))) }
     ensures fault { IsErrOf result Stop.ReadFault → Rose (S.faults input.old) (S.faults input.new) }
 {
-    let Ok(mut feed) = Feed::new(alloc, bytes, windows) else {
-        return Err(Stop::NoMemory);
-    };
+    let mut feed = Feed::new(rt, alloc, ring, feeder);
     read_lines(alloc, &mut feed, input)?;
     feed.finish(alloc)?;
-    Ok(feed.buffer)
+    Ok(feed.publisher.relay(pass))
 }
 
 // Room for a piece of the input.
@@ -50,17 +54,18 @@ fn piece_room() -> [u8; PIECE]
 }
 
 // Publishes the windows of all lines that end with a LF.
-fn read_lines<B: Buffer, S: Source>(
+fn read_lines<R: Wait, T: Timeline, S: Source>(
     alloc: Global,
-    feed: &mut Feed<B>,
+    feed: &mut Feed<'_, R, T>,
     input: &mut S,
 ) -> Result<(), Stop>
     requires empty { feed.old.lines.used + length feed.old.lines.come ≡ 0 }
+    requires told { T.told ≡ option_map (λ bytes. (runs (record { sent = feed.old.publisher; lines = feed.old.lines }) bytes).sent.windows) (S.left input.old) }
     ensures reads { OnOk result (ReadsAll (S.left input.old) (S.left input.new)
-        (record { relay = B.relay feed.old.buffer; windows = feed.old.count; lines = feed.old.lines })
-        (record { relay = B.relay feed.new.buffer; windows = feed.new.count; lines = feed.new.lines })) }
+        (record { sent = feed.old.publisher; lines = feed.old.lines })
+        (record { sent = feed.new.publisher; lines = feed.new.lines })) }
     ensures halts { IfErr result (λ stop. HaltsAt stop (EndsSo (S.left input.old) (S.left input.new)
-        (record { relay = B.relay feed.old.buffer; windows = feed.old.count; lines = feed.old.lines }))) }
+        (record { sent = feed.old.publisher; lines = feed.old.lines }))) }
     ensures fault { IsErrOf result Stop.ReadFault → Rose (S.faults input.old) (S.faults input.new) }
 {
     let mut piece = piece_room();

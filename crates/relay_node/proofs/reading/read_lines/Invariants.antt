@@ -7,9 +7,8 @@ abbrev pub invariant-loop-read : goal.invariant-loop-read
 invariant-loop-read g l = record {
   room : 0 < length l.piece;
   low : l.read ≤ longest_input;
-  reached : Reached (g.S.Source.left l.fn.input) (g.S.Source.left l.input)
-      (record { relay = g.B.Buffer.relay l.fn.feed.buffer; windows = l.fn.feed.count; lines = l.fn.feed.lines })
-      (record { relay = g.B.Buffer.relay l.feed.buffer; windows = l.feed.count; lines = l.feed.lines }) l.read;
+  reached : Reached (g.S.Source.left l.fn.input) (g.S.Source.left l.input) (record { sent = l.fn.feed.publisher; lines = l.fn.feed.lines })
+      (record { sent = l.feed.publisher; lines = l.feed.lines }) l.read;
   later : g.S.Source.faults l.fn.input ≤ g.S.Source.faults l.input;
 }
 

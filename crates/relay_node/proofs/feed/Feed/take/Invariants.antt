@@ -4,9 +4,8 @@ use Rattle.relay_node.proofs.feed.Feed.take.Given as goal
 
 abbrev pub invariant-loop-after : goal.invariant-loop-after
 invariant-loop-after g l = record {
-  within : IsWithin (record { relay = g.B.Buffer.relay l.self.buffer; windows = l.self.count; lines = l.self.lines });
-  part : TakesPart (record { relay = g.B.Buffer.relay l.fn.self.buffer; windows = l.fn.self.count; lines = l.fn.self.lines }) l.fn.piece
-      (record { relay = g.B.Buffer.relay l.self.buffer; windows = l.self.count; lines = l.self.lines }) l.rest;
+  within : IsWithin (record { sent = l.self.publisher; lines = l.self.lines });
+  part : TakesPart (record { sent = l.fn.self.publisher; lines = l.fn.self.lines }) l.fn.piece (record { sent = l.self.publisher; lines = l.self.lines }) l.rest;
 }
 
 abbrev pub decreases-loop-after : goal.decreases-loop-after
