@@ -45,6 +45,10 @@ Halts check run = (run.count ≡ most_windows) ⊎ (can_stand check.top check.fi
 abbrev pub Goes : Windows → Run → Run → Type 0
 Goes check old new = IsReached check new × (old.place < new.place)
 
+-- no more was read, since no more may be
+abbrev pub Stays : Windows → Run → Run → Type 0
+Stays check old new = Halts check old × (new ≡ old)
+
 -- the reply is whole: a window stands in front, and nothing of another one is there
 abbrev pub is_whole : Windows → Run → Bool
 is_whole check run = nat_lt 0 run.count && run.events.count == 0 && run.place == length check.bytes.now

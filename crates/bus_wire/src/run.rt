@@ -1,9 +1,9 @@
-ghost use Rattle.std.specs.Prelude.{◌≡◌, ◌<◌, ◌&&◌, nat_le, false, None, MatchOption, MatchResult};
+ghost use Rattle.std.specs.Prelude.{◌≡◌, ◌<◌, ◌&&◌, IsTrue, IsFalse, nat_le, false, None, MatchOption, MatchResult};
 ghost use Rattle.bus_types.specs.Relay.{most_windows};
 ghost use Rattle.partition_filter.specs.Selection.{test_of};
 ghost use Rattle.event_codec.specs.Items.{Shows};
 ghost use Rattle.bus_wire.specs.Lawful.{has_enough, HoldsRun, StopsAt};
-ghost use Rattle.bus_wire.specs.Run.{IsReached, front_at, Halts, Goes, is_whole};
+ghost use Rattle.bus_wire.specs.Run.{IsReached, front_at, Halts, Goes, Stays, is_whole};
 
 use crate::fault::BadReply;
 use bus_types::{Accepts, Key};
@@ -70,62 +70,58 @@ impl<'a> Windows<'a> {
         scn <= self.top && has_enough(self.filter, count)
     }
 
-    // Behind an event.
-    fn with_event(&self, run: Run, scn: u64, source: u16, key: u64, size: usize) -> Option<Run>
-        requires reached { IsReached self.now run }
-        requires room { run.count < most_windows }
-        requires found { Shows (Item.Event scn source key size) (front_at self.now run) }
-        ensures { MatchOption result (Halts self.now run) (λ next. Goes self.now run next) }
+    // Moves behind an event, and answers whether it may stand.
+    fn with_event(&self, run: &mut Run, scn: u64, source: u16, key: u64, size: usize) -> bool
+        requires reached { IsReached self.now run.old }
+        requires room { run.old.count < most_windows }
+        requires found { Shows (Item.Event scn source key size) (front_at self.now run.old) }
+        ensures goes { IsTrue result → Goes self.now run.old run.new }
+        ensures stays { IsFalse result → Stays self.now run.old run.new }
     {
         if !self.takes_event(scn, source, key) {
-            return None;
+            return false;
         }
-        let events = Events {
-            scn: Some(scn),
-            count: run.events.count + 1,
-            size: run.events.size + size,
-        };
-        Some(Run {
-            follows: run.follows,
-            events,
-            count: run.count,
-            place: run.place + size,
-        })
+        run.events.scn = Some(scn);
+        run.events.count += 1;
+        run.events.size += size;
+        run.place += size;
+        true
     }
 
-    // Behind a mark.
-    fn with_mark(&self, run: Run, scn: u64, prev: u64) -> Option<Run>
-        requires reached { IsReached self.now run }
-        requires room { run.count < most_windows }
-        requires found { Shows (Item.Mark scn prev) (front_at self.now run) }
-        ensures { MatchOption result (Halts self.now run) (λ next. Goes self.now run next) }
+    // Moves behind a mark, and answers whether it may stand.
+    fn with_mark(&self, run: &mut Run, scn: u64, prev: u64) -> bool
+        requires reached { IsReached self.now run.old }
+        requires room { run.old.count < most_windows }
+        requires found { Shows (Item.Mark scn prev) (front_at self.now run.old) }
+        ensures goes { IsTrue result → Goes self.now run.old run.new }
+        ensures stays { IsFalse result → Stays self.now run.old run.new }
     {
         if !self.takes_mark(scn, run.events.count) {
-            return None;
+            return false;
         }
-        let follows = Follows {
-            floor: scn,
-            started: true,
-        };
-        Some(Run {
-            follows,
-            events: Events::NONE,
-            count: run.count + 1,
-            place: run.place + MARK_SIZE,
-        })
+        run.follows.floor = scn;
+        run.follows.started = true;
+        run.events.scn = None;
+        run.events.count = 0;
+        run.events.size = 0;
+        run.count += 1;
+        run.place += MARK_SIZE;
+        true
     }
 
-    // Behind one more item. None where none can stand.
-    fn advance(&self, run: Run) -> Option<Run>
-        requires { IsReached self.now run }
-        ensures { MatchOption result (Halts self.now run) (λ next. Goes self.now run next) }
+    // Moves behind one more item, and answers whether one can stand. It changes the numbers where they are: to copy them
+    // costs more than to read an item.
+    fn advance(&self, run: &mut Run) -> bool
+        requires { IsReached self.now run.old }
+        ensures goes { IsTrue result → Goes self.now run.old run.new }
+        ensures stays { IsFalse result → Stays self.now run.old run.new }
     {
         if run.count == MAX_WINDOWS {
-            return None;
+            return false;
         }
         match item_front(run.follows, run.events, &self.bytes[run.place..]) {
-            Item::Unfinished => None,
-            Item::Refused => None,
+            Item::Unfinished => false,
+            Item::Refused => false,
             Item::Event {
                 scn,
                 source,
@@ -177,8 +173,6 @@ pub(crate) fn check_windows(
         bytes,
     };
     let mut run = Run::new(floor);
-    while let Some(next) = windows.advance(run) {
-        run = next;
-    }
+    while windows.advance(&mut run) {}
     windows.end(run)
 }
