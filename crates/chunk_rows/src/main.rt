@@ -23,6 +23,15 @@ const TWO: Cursor = Cursor::After {
     key: Key::Long(2),
 };
 
+// What is done in a scan.
+#[derive(Clone, Copy)]
+enum Step {
+    // The rows move on to an SCN.
+    Commit(u64),
+    // A chunk at an SCN, behind a place, of at most so many bytes.
+    Chunk(u64, Cursor, u32),
+}
+
 fn main(rt: HostRuntime) -> Result<(), Fail> {
     scan(&rt)?;
     scan_that_fails(&rt)?;
@@ -32,14 +41,16 @@ fn main(rt: HostRuntime) -> Result<(), Fail> {
 
 // A scan whose rows move on from 10 to 30 between two chunks.
 fn scan(rt: &HostRuntime) -> Result<(), Fail> {
-    let mut keeper = MemoryKeeper::new(rt.alloc(), &[])?;
-    show_chunk(rt, &mut keeper, 0, Cursor::Start, 1000)?;
-    commit(rt.alloc(), &mut keeper, 10)?;
-    show_chunk(rt, &mut keeper, 10, Cursor::Start, 9)?;
-    show_chunk(rt, &mut keeper, 10, Cursor::Start, 34)?;
-    commit(rt.alloc(), &mut keeper, 20)?;
-    commit(rt.alloc(), &mut keeper, 30)?;
-    show_chunk(rt, &mut keeper, 30, ONE, 1000)
+    let steps = [
+        Step::Chunk(0, Cursor::Start, 1000),
+        Step::Commit(10),
+        Step::Chunk(10, Cursor::Start, 9),
+        Step::Chunk(10, Cursor::Start, 34),
+        Step::Commit(20),
+        Step::Commit(30),
+        Step::Chunk(30, ONE, 1000),
+    ];
+    show_scan(rt, &[], &steps)
 }
 
 // The keeper's second call, which reads a page, fails.
@@ -48,18 +59,42 @@ fn scan_that_fails(rt: &HostRuntime) -> Result<(), Fail> {
         call: 1,
         after: false,
     }];
-    let mut keeper = MemoryKeeper::new(rt.alloc(), &fails)?;
-    commit(rt.alloc(), &mut keeper, 10)?;
-    show_chunk(rt, &mut keeper, 10, Cursor::Start, 1000)
+    let steps = [Step::Commit(10), Step::Chunk(10, Cursor::Start, 1000)];
+    show_scan(rt, &fails, &steps)
+}
+
+fn show_scan(rt: &HostRuntime, fails: &[Listed], steps: &[Step]) -> Result<(), Fail> {
+    let mut keeper = MemoryKeeper::new(rt.alloc(), fails)?;
+    show_steps(rt, &mut keeper, steps)
+}
+
+fn show_steps(rt: &HostRuntime, keeper: &mut MemoryKeeper, steps: &[Step]) -> Result<(), Fail> {
+    for step in steps {
+        show_step(rt, keeper, *step)?;
+    }
+    Ok(())
+}
+
+fn show_step(rt: &HostRuntime, keeper: &mut MemoryKeeper, step: Step) -> Result<(), Fail> {
+    match step {
+        Step::Commit(scn) => commit(rt.alloc(), keeper, scn),
+        Step::Chunk(applied, cursor, max) => show_chunk(rt, keeper, applied, cursor, max),
+    }
 }
 
 // The last changes, in two chunks, and in other stretches.
 fn changes(rt: &HostRuntime) -> Result<(), Fail> {
+    let stretches = [
+        (0, 40, Cursor::Start, 57),
+        (0, 40, TWO, 1000),
+        (0, 25, Cursor::Start, 1000),
+        (20, 30, Cursor::Start, 32),
+    ];
     let mut log = new_log(rt.alloc(), &[])?;
-    show_delta(rt, &mut log, 0, 40, Cursor::Start, 57)?;
-    show_delta(rt, &mut log, 0, 40, TWO, 1000)?;
-    show_delta(rt, &mut log, 0, 25, Cursor::Start, 1000)?;
-    show_delta(rt, &mut log, 20, 30, Cursor::Start, 32)
+    for (since, target, cursor, max) in stretches {
+        show_delta(rt, &mut log, since, target, cursor, max)?;
+    }
+    Ok(())
 }
 
 // The log's sixth call, which reads the second window, fails.
