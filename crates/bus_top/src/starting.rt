@@ -10,7 +10,6 @@ use bus_node::{
     BootstrapWords, ConsumeWords, NodeStatus, NodeWords, RelayWords, WordsFault, read_words,
 };
 use bus_stores::{Keeper, MemoryLog};
-use byte_ring::ByteRing;
 use consume_node::run_consumer;
 use relay_node::run_relay;
 use std::alloc::Global;
@@ -51,7 +50,7 @@ pub fn node<R: Wait, S: Source + Drop, W: Sink + Drop, L: Link + Drop, K: Keeper
         outside.keeper result.1.keeper }
 {
     match read_words(alloc, words) {
-        Ok(NodeWords::Relay(words)) => relay(alloc, &words, outside),
+        Ok(NodeWords::Relay(words)) => relay(rt, alloc, &words, outside),
         Ok(NodeWords::Bootstrap(words)) => bootstrap(rt, alloc, &words, outside),
         Ok(NodeWords::Consume(words)) => consume(alloc, words, outside),
         Err(WordsFault::Usage) => (NodeStatus::Usage, outside),
@@ -59,8 +58,9 @@ pub fn node<R: Wait, S: Source + Drop, W: Sink + Drop, L: Link + Drop, K: Keeper
     }
 }
 
-// Runs a relay, whose windows are kept in one circle of bytes.
-fn relay<S: Source, W: Sink, L: Link, K>(
+// Runs a relay.
+fn relay<R: Wait, S: Source, W: Sink, L: Link, K>(
+    rt: &R,
     alloc: Global,
     words: &RelayWords,
     mut outside: Outside<S, W, L, K>,
@@ -71,7 +71,8 @@ fn relay<S: Source, W: Sink, L: Link, K>(
         (seen_of S.left W.written L.told S.faults W.faults L.faults result.1) }
     ensures keeper { result.1.keeper ≡ outside.keeper }
 {
-    let status = run_relay::<ByteRing, S, W, L>(
+    let status = run_relay(
+        rt,
         alloc,
         words,
         &mut outside.input,
