@@ -1,6 +1,5 @@
 -- Entries, and the rows in them.
-use Rattle.std.proofs.Common.{◌≡◌, ℕ, ◌+◌, ◌<◌, ◌&&◌, Bool, true, false, cond, T, List, [], ◌∷◌, ◌++◌, length, drop, get_or, Ordering, Less, Equal, Greater, Option, Some, None, option_and_then, is_some, is_eq, is_lt, true≢false, refl, sym, ap, ap₂, subst, ◌∙◌}
-use Rattle.std.proofs.lemmas.List.{drop_more}
+use Rattle.std.proofs.Common.{◌≡◌, ℕ, ◌&&◌, Bool, true, false, cond, T, List, [], ◌∷◌, ◌++◌, Ordering, Less, Equal, Greater, Option, Some, None, option_and_then, is_some, is_eq, is_lt, true≢false, refl, sym, ap, ap₂, subst, ◌∙◌}
 use Rattle.std.specs.Option.{IsSome}
 use Rattle.std.specs.Prelude.{Result, Ok, Err, IfOk, OnOk, OnErr, IsOk}
 use Rattle.std.specs.Ordering.{match_ordering}
@@ -256,8 +255,6 @@ undone_more now new all before after name put had h is found made e =
 pub undone_left : (now new all : RowList) (before rest : EntryList) (b : RowName × Option (List ℕ)) → before ≡ rest ++ b ∷ [] → new ≡ row_after now b.0 b.1 → undone now before ≡ all → undone new rest ≡ all
 undone_left now new all before rest b is made e = ap (λ rows. undone rows rest) made ∙ sym (undone_push now rest b) ∙ sym (ap (undone now) is) ∙ e
 
--- one change more is made
-pub made_next : (now new : RowList) (changes : List Change) (i : ℕ) (c : Change) (all : RowList) → i < length changes → c ≡ get_or changes i c → new ≡ row_after now (name_of c) c.put → rows_after now (drop i changes) ≡ all → rows_after new (drop (i + 1) changes) ≡ all
-made_next now new changes i c all lt is made e =
-    let next : drop i changes ≡ c ∷ drop (i + 1) changes = drop_more changes i c lt ∙ ap (λ d. d ∷ drop (i + 1) changes) (sym is) in
-    ap (λ rows. rows_after rows (drop (i + 1) changes)) made ∙ ap (rows_after now) (sym next) ∙ e
+-- one change more is made, the first of those that are left
+pub made_first : (now new : RowList) (changes rest : List Change) (c : Change) (all : RowList) → changes ≡ c ∷ rest → new ≡ row_after now (name_of c) c.put → rows_after now changes ≡ all → rows_after new rest ≡ all
+made_first now new changes rest c all is made e = ap (λ rows. rows_after rows rest) made ∙ ap (rows_after now) (sym is) ∙ e

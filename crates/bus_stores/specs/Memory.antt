@@ -1,5 +1,5 @@
 -- What a keeper in memory is to a contract.
-use Rattle.std.specs.Prelude.{◌≡◌, ℕ, ◌+◌, ◌-◌, ◌^◌, min, ◌==◌, Bool, true, false, if◌then◌else◌, List, [], ◌∷◌, ◌++◌, length, find, slice_get, Option, Some, None, option_map, Result, Ok, Err}
+use Rattle.std.specs.Prelude.{◌≡◌, ℕ, ◌+◌, ◌-◌, ◌==◌, Bool, true, false, if◌then◌else◌, List, [], ◌∷◌, ◌++◌, length, find, slice_get, Option, Some, None, option_map, Result, Ok, Err}
 use Rattle.bus_types.specs.Counting.{next_count}
 use Rattle.bus_types.specs.Table.{RowList}
 use Rattle.bus_stores.specs.declared.keeper.Stop.{Stop}

@@ -7,7 +7,7 @@ use Rattle.bus_stores.specs.Keeper.{KeeperState, Move, Counts, SameStore, Leaves
 
 -- what a commit makes, as a record of the program
 abbrev pub commit_move : Commit → Move
-commit_move c = move_of c.clear c.batch.now c.mark.now
+commit_move c = move_of c.clear c.batch.items c.mark.now
 
 -- what a call leaves that has no commit to make, by its answer
 abbrev pub LeavesAll : {X : Type 0} → KeeperState → KeeperState → Result X StoreFault → Type 0

@@ -1,4 +1,4 @@
-ghost use Rattle.std.specs.Prelude.{◌≡◌, ◌≤◌, ◌++◌, [], length, map, option_and_then, vec_capacity, IfOk, OnOk, OnErr};
+ghost use Rattle.std.specs.Prelude.{◌≡◌, ◌+◌, ◌<◌, ◌≤◌, ◌++◌, [], length, map, option_and_then, vec_capacity, IfOk, OnOk, OnErr};
 ghost use Rattle.bus_types.specs.declared.change.RowName.{RowName};
 ghost use Rattle.bus_types.specs.Change.{name_of};
 ghost use Rattle.bus_types.specs.Rows.{pair_of, page_of};
@@ -18,65 +18,87 @@ pub(crate) type Entries = BTreeMap<RowName, Option<Payload>>;
 type Before = Vec<(RowName, Option<Payload>)>;
 
 /// Makes the changes, in order, or none of them. It takes time in proportion to the changes, and a factor that is the
-/// logarithm of the number of entries: each change looks its name up once, and one that deletes twice.
+/// logarithm of the number of entries: each change looks its name up once, and one that deletes twice. No payload is copied.
 pub(crate) fn change(
     alloc: Global,
     entries: &mut Entries,
-    changes: &[Change],
+    changes: Vec<Change>,
 ) -> Result<(), NoMemory>
-    ensures ok { OnOk result (rows_in entries.new.entries ≡ rows_after (rows_in entries.old.entries) changes.now) }
+    ensures ok { OnOk result (rows_in entries.new.entries ≡ rows_after (rows_in entries.old.entries) changes.items) }
     ensures err { OnErr result (rows_in entries.new.entries ≡ rows_in entries.old.entries) }
 {
     let mut before = Vec::with_capacity(alloc, changes.len())?;
-    match write(alloc, entries, changes, &mut before) {
+    let mut deleted = Vec::with_capacity(alloc, changes.len())?;
+    let mut added = Vec::with_capacity(alloc, changes.len())?;
+    match write(entries, changes, &mut before, &mut deleted, &mut added) {
         Ok(()) => {
-            drop_deleted(entries, changes);
+            drop_room(entries, &deleted);
             Ok(())
         }
         Err(fault) => {
             undo(entries, before);
-            drop_room(entries, changes);
+            drop_room(entries, &added);
             Err(fault)
         }
     }
 }
 
-// Makes the changes, in order, and keeps what each row had before. After want of memory only the first of them are made.
+// Makes the changes, in order, and keeps what each row had before, the names that were deleted, and those that had no row.
+// After want of memory only the first of them are made.
 fn write(
-    alloc: Global,
     entries: &mut Entries,
-    changes: &[Change],
+    changes: Vec<Change>,
     before: &mut Before,
+    deleted: &mut Vec<RowName>,
+    added: &mut Vec<RowName>,
 ) -> Result<(), NoMemory>
     requires none { before.old.items ≡ [] }
-    requires space { length changes.now ≤ vec_capacity before.old }
-    ensures ok { OnOk result (rows_in entries.new.entries ≡ rows_after (rows_in entries.old.entries) changes.now) }
+    requires none_deleted { deleted.old.items ≡ [] }
+    requires none_added { added.old.items ≡ [] }
+    requires space { length changes.items ≤ vec_capacity before.old }
+    requires space_deleted { length changes.items ≤ vec_capacity deleted.old }
+    requires space_added { length changes.items ≤ vec_capacity added.old }
+    ensures ok { OnOk result (rows_in entries.new.entries ≡ rows_after (rows_in entries.old.entries) changes.items) }
     ensures undone { undone (rows_in entries.new.entries) before.new.items ≡ rows_in entries.old.entries }
     ensures room { HaveRoom entries.new.entries before.new.items }
 {
     for change in changes {
-        let had = write_one(alloc, entries, change)?;
-        before.push_reserved((change.name(), had));
+        let name = change.name();
+        let deletes = change.put.is_none();
+        let had = write_one(entries, name, change.put)?;
+        push_if(deletes, deleted, name);
+        push_if(had.is_none(), added, name);
+        before.push_reserved((name, had));
     }
     Ok(())
 }
 
-// Makes a change, and answers what its row had before. After want of memory the entries are as before.
+// Appends a name, where it is to be appended.
+fn push_if(wanted: bool, names: &mut Vec<RowName>, name: RowName)
+    requires { length names.old.items < vec_capacity names.old }
+    ensures more { length names.new.items ≤ length names.old.items + 1 }
+    ensures space { vec_capacity names.new ≡ vec_capacity names.old }
+{
+    if wanted {
+        names.push_reserved(name);
+    }
+}
+
+// Gives a row a payload or none, and answers what it had before. After want of memory the entries are as before.
 fn write_one(
-    alloc: Global,
     entries: &mut Entries,
-    change: &Change,
+    name: RowName,
+    put: Option<Payload>,
 ) -> Result<Option<Payload>, NoMemory>
-    ensures rows { OnOk result (rows_in entries.new.entries ≡ row_after (rows_in entries.old.entries) (name_of change.now) change.now.put) }
-    ensures had { IfOk result (λ had. had ≡ payload_at (rows_in entries.old.entries) (name_of change.now)) }
+    ensures rows { OnOk result (rows_in entries.new.entries ≡ row_after (rows_in entries.old.entries) name put) }
+    ensures had { IfOk result (λ had. had ≡ payload_at (rows_in entries.old.entries) name) }
     ensures err { OnErr result (entries.new.entries ≡ entries.old.entries) }
-    ensures room { OnOk result (HasRoom entries.new.entries (name_of change.now)) }
+    ensures room { OnOk result (HasRoom entries.new.entries name) }
     ensures kept { (q : RowName) → HasRoom entries.old.entries q → HasRoom entries.new.entries q }
     ensures ordered { IsTable (rows_in entries.old.entries) }
 {
     let _rising = entries.len();
-    let put = copy_put(alloc, &change.put)?;
-    let had = entries.insert(change.name(), put)?;
+    let had = entries.insert(name, put)?;
     Ok(flat(had))
 }
 
@@ -110,23 +132,12 @@ fn restore(entries: &mut Entries, name: RowName, put: Option<Payload>)
     let _ = replaced.unwrap();
 }
 
-// Drops the room of names that these changes deleted. The others have a row, so that they need not be looked up again.
-fn drop_deleted(entries: &mut Entries, changes: &[Change])
+// Drops the room of those of these names that have no row.
+fn drop_room(entries: &mut Entries, names: &[RowName])
     ensures { rows_in entries.new.entries ≡ rows_in entries.old.entries }
 {
-    for change in changes {
-        if change.put.is_none() {
-            drop_room_for(entries, &change.name());
-        }
-    }
-}
-
-// Drops the room that these changes left without a row.
-fn drop_room(entries: &mut Entries, changes: &[Change])
-    ensures { rows_in entries.new.entries ≡ rows_in entries.old.entries }
-{
-    for change in changes {
-        drop_room_for(entries, &change.name());
+    for name in names {
+        drop_room_for(entries, name);
     }
 }
 

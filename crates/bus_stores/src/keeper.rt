@@ -61,6 +61,19 @@ pub trait Keeper {
     ) -> Result<(), StoreFault>
         ensures { Commits (move_of clear batch.now mark.now) (state self.old) (state self.new) result };
 
+    /// As [`Keeper::commit`], of changes that are given away, so that no payload need be copied.
+    fn commit_owned(
+        &mut self,
+        alloc: Global,
+        clear: bool,
+        batch: Vec<Change>,
+        mark: &MarkText,
+    ) -> Result<(), StoreFault>
+        ensures { Commits (move_of clear batch.items mark.now) (state self.old) (state self.new) result }
+    {
+        self.commit(alloc, clear, &batch, mark)
+    }
+
     /// The first `max` rows after the cursor, or those there are, in order of source and key. `max` is at least 1.
     fn rows_after(&mut self, alloc: Global, cursor: &Cursor, max: usize) -> Result<Rows, StoreFault>
         requires { 0 < max }

@@ -8,7 +8,9 @@ use crate::keeper::{Keeper, Stop, StoreFault};
 use crate::marks::Marks;
 use crate::plan::{Fail, next_stop, stop_at};
 use crate::table::Table;
-use bus_types::{Change, Cursor, Failed, Key, MarkText, NoMemory, Payload, Plan, RowName, Rows};
+use bus_types::{
+    Change, Cursor, Failed, Key, MarkText, NoMemory, Payload, Plan, RowName, Rows, copy_changes,
+};
 use std::alloc::Global;
 use std::marker::Model;
 
@@ -138,16 +140,31 @@ impl MemoryKeeper {
         &mut self,
         alloc: Global,
         clear: bool,
-        batch: &[Change],
+        batch: Vec<Change>,
         mark: &MarkText,
     ) -> Result<(), NoMemory>
-        ensures ok { OnOk result (self.new ≡ stored (move_of clear batch.now mark.now) self.old) }
+        ensures ok { OnOk result (self.new ≡ stored (move_of clear batch.items mark.now) self.old) }
         ensures err { OnErr result (self.new ≡ self.old) }
     {
         let mark = MarkText::new(alloc, mark.bytes())?;
         self.table.change(alloc, clear, batch)?;
         self.marks.push(mark);
         Ok(())
+    }
+
+    // As `store`, of changes that are lent.
+    fn store_copy(
+        &mut self,
+        alloc: Global,
+        clear: bool,
+        batch: &[Change],
+        mark: &MarkText,
+    ) -> Result<(), NoMemory>
+        ensures ok { OnOk result (self.new ≡ stored (move_of clear batch.now mark.now) self.old) }
+        ensures err { OnErr result (self.new ≡ self.old) }
+    {
+        let copies = copy_changes(alloc, batch)?;
+        self.store(alloc, clear, copies, mark)
     }
 }
 
@@ -178,6 +195,31 @@ impl Keeper for MemoryKeeper {
         ensures commit { Commits (move_of clear batch.now mark.now) (told_by self.old) (told_by self.new) result }
         ensures exact { FailsAt (commit_stop self.old) result }
         ensures exact_state { CommitLeaves (move_of clear batch.now mark.now) self.old self.new result }
+        ensures numbered { CountsCall self.old self.new }
+    {
+        match self.begin_commit() {
+            None => Ok(self.store_copy(alloc, clear, batch, mark)?),
+            Some(Stop::Before) => Err(self.stop()),
+            Some(Stop::After) => {
+                self.store_copy(alloc, clear, batch, mark)?;
+                Err(self.stop())
+            }
+        }
+    }
+
+    /// An armed stop goes before a listed one. After `Failed` the rows and the mark are those that it sets where the stop
+    /// that it met is one after it counts, and else those before it; no stop is armed then.
+    #[tactic(auto, using(crate::proofs::Storing::commit_steps))]
+    fn commit_owned(
+        &mut self,
+        alloc: Global,
+        clear: bool,
+        batch: Vec<Change>,
+        mark: &MarkText,
+    ) -> Result<(), StoreFault>
+        ensures commit { Commits (move_of clear batch.items mark.now) (told_by self.old) (told_by self.new) result }
+        ensures exact { FailsAt (commit_stop self.old) result }
+        ensures exact_state { CommitLeaves (move_of clear batch.items mark.now) self.old self.new result }
         ensures numbered { CountsCall self.old self.new }
     {
         match self.begin_commit() {

@@ -34,8 +34,13 @@ impl Table {
     }
 
     /// Makes the changes in order, on an empty table where `clear` is true. After want of memory the rows are as before.
-    pub fn change(&mut self, alloc: Global, clear: bool, changes: &[Change]) -> Result<(), NoMemory>
-        ensures ok { OnOk result (self.new ≡ rows_after (if clear then [] else self.old) changes.now) }
+    pub fn change(
+        &mut self,
+        alloc: Global,
+        clear: bool,
+        changes: Vec<Change>,
+    ) -> Result<(), NoMemory>
+        ensures ok { OnOk result (self.new ≡ rows_after (if clear then [] else self.old) changes.items) }
         ensures err { OnErr result (self.new ≡ self.old) }
     {
         if clear {
@@ -45,8 +50,8 @@ impl Table {
     }
 
     // The rows that the changes make on an empty table take the place of these.
-    fn replace(&mut self, alloc: Global, changes: &[Change]) -> Result<(), NoMemory>
-        ensures ok { OnOk result (self.new ≡ rows_after [] changes.now) }
+    fn replace(&mut self, alloc: Global, changes: Vec<Change>) -> Result<(), NoMemory>
+        ensures ok { OnOk result (self.new ≡ rows_after [] changes.items) }
         ensures err { OnErr result (self.new ≡ self.old) }
     {
         let mut fresh = Entries::new(alloc);

@@ -6,12 +6,12 @@ use bus_types::{Change, MarkText};
 use std::alloc::Global;
 
 /// What a commit makes.
-#[derive(Clone, Copy, Debug)]
+#[derive(Debug, Drop)]
 pub struct Commit<'a> {
     /// Whether the rows are cleared first.
     pub clear: bool,
     /// The changes, in order.
-    pub batch: &'a [Change],
+    pub batch: Vec<Change>,
     /// The mark.
     pub mark: &'a MarkText,
 }
@@ -31,6 +31,6 @@ pub fn take<K: Keeper>(
     let Some(commit) = commit else {
         return Ok(false);
     };
-    keeper.commit(alloc, commit.clear, commit.batch, commit.mark)?;
+    keeper.commit_owned(alloc, commit.clear, commit.batch, commit.mark)?;
     Ok(true)
 }

@@ -1,20 +1,15 @@
-use Rattle.std.proofs.Common.{◌∙◌, ap, ap₂}
-use Rattle.bus_types.specs.Table.{row_after, payload_at}
-use Rattle.bus_stores.specs.Entries.{rows_in}
+use Rattle.std.proofs.Common.{◌∙◌}
 use Rattle.bus_stores.proofs.Rooms.{map_table, payload_at-map, written, room_kept}
 use Rattle.bus_stores.proofs.entries.write_one.Goals as goal
-
-pub returns-in_err-put-clause-ordered : goal.returns-in_err-put-clause-ordered
-returns-in_err-put-clause-ordered c = map_table c.args.entries.now c.len-rising.ensures.ordered
 
 pub returns-in_err-had-clause-ordered : goal.returns-in_err-had-clause-ordered
 returns-in_err-had-clause-ordered c = map_table c.args.entries.now c.len-rising.ensures.ordered
 
 pub returns-clause-rows : goal.returns-clause-rows
-returns-clause-rows c = written _ _ _ _ c.in_ok-had.ensures.was_ordered c.in_ok-had.ensures.entries ∙ ap₂ (λ name put. row_after (rows_in c.args.entries.now.entries) name put) c.name.ensures c.in_ok-put.ensures
+returns-clause-rows c = written _ _ _ _ c.in_ok-had.ensures.was_ordered c.in_ok-had.ensures.entries
 
 pub returns-clause-had : goal.returns-clause-had
-returns-clause-had c = c.flat.ensures ∙ payload_at-map c.args.entries.now c.name.result c.in_ok-had.had c.len-rising.ensures.ordered c.in_ok-had.ensures.old ∙ ap (payload_at (rows_in c.args.entries.now.entries)) c.name.ensures
+returns-clause-had c = c.flat.ensures ∙ payload_at-map c.args.entries.now c.args.name c.in_ok-had.had c.len-rising.ensures.ordered c.in_ok-had.ensures.old
 
 pub returns-clause-kept : goal.returns-clause-kept
 returns-clause-kept c = room_kept _ _ _ _ c.in_ok-had.ensures.updates.0
