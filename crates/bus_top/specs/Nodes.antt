@@ -1,5 +1,5 @@
 -- What a node has read, written, asked and served, by its status.
-use Rattle.std.specs.Prelude.{◌≡◌, ℕ, ◌⊎◌, List, map, Option, Some, None, String, string_bytes}
+use Rattle.std.specs.Prelude.{◌≡◌, ℕ, ◌⊎◌, true, List, map, Option, Some, None, String, string_bytes}
 use Rattle.std.specs.Global.{Global}
 use Rattle.std.specs.Io.KnownBytes.{Appends}
 use Rattle.bus_types.specs.Causes.{Rose}
@@ -17,7 +17,7 @@ use Rattle.bus_node.specs.declared.words.NodeWords.{NodeWords}
 use Rattle.bus_node.specs.declared.words.NodeWords.TheVariants.{Relay, Bootstrap, Consume}
 use Rattle.bus_node.specs.declared.status.NodeStatus.{NodeStatus}
 use Rattle.bus_node.specs.declared.status.NodeStatus.TheVariants.{Done, Usage, BadLine, ReadFault, WriteFault, NoMemory, TooLong, LinkFault, StoreFault, WrongWord, BadAnswer, BadReply, BadMark, Ahead, Hole}
-use Rattle.bus_node.specs.Words.{node_words}
+use Rattle.bus_node.specs.Words.{node_words, is_plain}
 use Rattle.relay_node.specs.Feeding.Ending.{BadAt, TooLongAt, WrongAt}
 use Rattle.relay_node.specs.Node.{EndsAt, Relayed, RelayedSome, WritesFront}
 use Rattle.bootstrap_node.specs.Rounds.{Outside, Stopped, IsBadlyAnswered, IsBadlyReplied}
@@ -137,7 +137,7 @@ module _ {P : Type 0} (given left written : P → Option (List ℕ)) where
     Starts fresh (Some (Bootstrap w)) status o o' k k' = (last : G) × BootRuns w status (outside_of o) (outside_of o') fresh last k k'
     Starts fresh (Some (Consume w)) status o o' k k' = ConsumerEnds w status o o' (keeper k) (keeper k')
 
-    -- or memory ran out before anything was done
+    -- or memory ran out before anything was done, as words of a node's plain form were read
     abbrev pub Runs : G → List (String Global) → NodeStatus → Seen P → Seen P → K → K → Type 0
     Runs fresh words status o o' k k' = Starts fresh (node_words (map string_bytes words)) status o o' k k'
-        ⊎ ((status ≡ NoMemory) × (o' ≡ o) × (k' ≡ k))
+        ⊎ ((status ≡ NoMemory) × (is_plain (map string_bytes words) ≡ true) × (o' ≡ o) × (k' ≡ k))

@@ -35,8 +35,8 @@ pub struct Outside<S, W, L, K> {
 /// in memory, of at most 1,073,741,824 bytes of windows, and gone at the end.
 ///
 /// `Usage` comes exactly where the words are no form of a node's command, and nothing was done then. What each node does, by its
-/// status, is told at `run_relay`, `run_bootstrap` and `run_consumer`. `NoMemory` also comes where the words can't be read or a log
-/// can't be made for want of memory.
+/// status, is told at `run_relay`, `run_bootstrap` and `run_consumer`. `NoMemory` also comes where a log can't be made for want of
+/// memory, or where words can't be read for want of it: these are of a node's plain form, and nothing was done then.
 pub fn node<R: Wait, S: Source + Drop, W: Sink + Drop, L: Link + Drop, K: Keeper + Drop>(
     rt: &R,
     alloc: Global,
