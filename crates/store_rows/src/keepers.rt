@@ -61,7 +61,7 @@ fn take_commit(alloc: Global, keeper: &mut Store, row: &str) -> Result<String, F
     let mark = MarkText::new(alloc, mark.as_bytes())?;
     let commit = Commit {
         clear: false,
-        batch: &batch,
+        batch,
         mark: &mark,
     };
     let answer = take(alloc, keeper, Some(commit));
