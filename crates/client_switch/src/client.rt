@@ -14,7 +14,7 @@ ghost use Rattle.client_switch.specs.Client.{IsStored, Keeps, IsAskOf, asks, Tak
 ghost use Rattle.client_switch.specs.Turning.{wish_of, CanStand, checkpoint_call, HoldsComing, Settles};
 
 use crate::fault::{AskRefusal, ClientOpen, TakeFault};
-use crate::turn::{Turn, turn_of};
+use crate::turn::turn_of;
 use crate::wish::Wish;
 use bus_stores::{Keeper, StoreFault};
 use bus_types::{MarkText, NoMemory};
@@ -286,8 +286,9 @@ impl Client {
         let Ok(turn) = turn_of(alloc, &self.mark, shape, reply) else {
             return Err(self.go_back(consumer));
         };
+        let (mark, wish) = (turn.mark, turn.wish);
         match turn.commit(alloc, keeper) {
-            Ok(text) => Ok(self.follow(&turn, &text, shape, consumer)),
+            Ok(text) => Ok(self.follow(mark, wish, &text, shape, consumer)),
             Err(StoreFault::Failed) => Err(self.halt()),
             Err(StoreFault::NoMemory) => Err(self.go_back(consumer)),
         }
@@ -296,19 +297,20 @@ impl Client {
     // Stands where a turn leads, and tells of the text that was set.
     fn follow<C: Consumer>(
         &mut self,
-        turn: &Turn,
+        mark: Mark,
+        wish: Wish,
         text: &Option<MarkText>,
         shape: &Shape,
         consumer: &mut C,
     ) -> Took
-        requires { CanStand turn.now.mark (wish_of turn.now.wish) }
-        ensures client { self.new ≡ record self.old { mark = turn.now.mark; wish = wish_of turn.now.wish } }
+        requires { CanStand mark (wish_of wish) }
+        ensures client { self.new ≡ record self.old { mark = mark; wish = wish_of wish } }
         ensures calls { C.calls consumer.new ≡ with_calls (checkpoint_call text.now) (C.calls consumer.old) }
         ensures later { C.refusals consumer.old ≤ C.refusals consumer.new }
         ensures took { result ≡ record { shape = shape.now; committed = is_some text.now } }
     {
-        self.mark = turn.mark;
-        self.wish = turn.wish;
+        self.mark = mark;
+        self.wish = wish;
         Took {
             shape: *shape,
             committed: tell_checkpoint(consumer, text),

@@ -248,13 +248,13 @@ pub(crate) fn turn_of(
 impl Turn {
     /// Makes its one commit, where it has one, and answers the text of the mark that was set.
     pub fn commit<K: Keeper>(
-        &self,
+        self,
         alloc: Global,
         keeper: &mut K,
     ) -> Result<Option<MarkText>, StoreFault>
-        requires { IsMark self.now.mark }
-        ensures takes { Takes (commit_of (turn_in self.now)) (K.state keeper.old) (K.state keeper.new) result }
-        ensures text { IfOk result (λ text. text ≡ text_of (turn_in self.now)) }
+        requires { IsMark self.mark }
+        ensures takes { Takes (commit_of (turn_in self)) (K.state keeper.old) (K.state keeper.new) result }
+        ensures text { IfOk result (λ text. text ≡ text_of (turn_in self)) }
     {
         if !self.commits {
             return Ok(None);
@@ -262,7 +262,7 @@ impl Turn {
         let mark = self.mark.write(alloc)?;
         let commit = Commit {
             clear: self.clear,
-            batch: &self.batch,
+            batch: self.batch,
             mark: &mark,
         };
         take(alloc, keeper, Some(commit))?;
