@@ -30,13 +30,19 @@ pub fn publish_generated<B: Buffer>(
 ) -> Result<(), Fail> {
     let mut state = seed;
     for _i in 0..count {
-        let last = buffer.tail();
-        if last > 1_000_000 {
-            return Ok(());
-        }
-        let window = gen_window(alloc, &mut state, last)?;
-        buffer.publish(alloc, &window)?;
+        publish_next(alloc, buffer, &mut state)?;
     }
+    Ok(())
+}
+
+// Publishes the next window that is made from a number, where the newest one is no later than 1,000,000.
+fn publish_next<B: Buffer>(alloc: Global, buffer: &mut B, state: &mut u32) -> Result<(), Fail> {
+    let last = buffer.tail();
+    if last > 1_000_000 {
+        return Ok(());
+    }
+    let window = gen_window(alloc, state, last)?;
+    buffer.publish(alloc, &window)?;
     Ok(())
 }
 
@@ -51,16 +57,22 @@ fn window(scn: u64, prev: u64, changes: Vec<Change>) -> Option<Window>
 fn puts_of(alloc: Global, puts: u64, size: usize) -> Result<Vec<Change>, Fail> {
     let mut changes = Vec::new(alloc);
     for key in 1..=puts {
-        changes.push(put(alloc, key, size)?)?;
+        add_put(alloc, &mut changes, key, size)?;
     }
     Ok(changes)
 }
 
-fn put(alloc: Global, key: u64, size: usize) -> Result<Change, Fail> {
-    let bytes = vec![in alloc; (key % 256) as u8; size]?;
-    Ok(Change {
+fn add_put(alloc: Global, changes: &mut Vec<Change>, key: u64, size: usize) -> Result<(), Fail> {
+    let payload = payload(alloc, key, size)?;
+    changes.push(Change {
         source: 0,
         key: Key::Long(key),
-        put: Some(Payload::new(alloc, &bytes)?),
-    })
+        put: Some(payload),
+    })?;
+    Ok(())
+}
+
+fn payload(alloc: Global, key: u64, size: usize) -> Result<Payload, Fail> {
+    let bytes = vec![in alloc; (key % 256) as u8; size]?;
+    Ok(Payload::new(alloc, &bytes)?)
 }
