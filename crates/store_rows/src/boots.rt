@@ -1,6 +1,6 @@
 use crate::keepers::Store;
 use crate::logs::Log;
-use crate::words::{cut, number, small, text};
+use crate::words::{cut, number, said, small, text};
 use bootstrap_core::Boot;
 use std::alloc::Global;
 use std::test::Fail;
@@ -30,33 +30,28 @@ fn take_log(
     reply: &[u8],
     most: u32,
 ) -> Result<String, Fail> {
-    let answer = boot.take_log(alloc, reply, most);
-    Ok(format!(in alloc; "{answer:?}")?)
+    said(alloc, &boot.take_log(alloc, reply, most))
 }
 
 fn apply(alloc: Global, boot: &mut Boot<Log, Store>, most: u32) -> Result<String, Fail> {
     if most == 0 || most > 32 {
         return text(alloc, "1 to 32");
     }
-    let answer = boot.apply(alloc, most);
-    Ok(format!(in alloc; "{answer:?}")?)
+    said(alloc, &boot.apply(alloc, most))
 }
 
 fn trim(alloc: Global, boot: &mut Boot<Log, Store>, scn: u64) -> Result<String, Fail> {
-    let answer = boot.trim(alloc, scn);
-    Ok(format!(in alloc; "{answer:?}")?)
+    said(alloc, &boot.trim(alloc, scn))
 }
 
 fn start(alloc: Global, boot: &Boot<Log, Store>, row: &str) -> Result<String, Fail> {
     let (since, kind) = cut(row);
-    let answer = boot.start(number(since), kind == "fresh");
-    Ok(format!(in alloc; "{answer:?}")?)
+    said(alloc, &boot.start(number(since), kind == "fresh"))
 }
 
 fn target(alloc: Global, boot: &Boot<Log, Store>, row: &str) -> Result<String, Fail> {
     let (start, least) = cut(row);
-    let answer = boot.target(number(start), number(least));
-    Ok(format!(in alloc; "{answer:?}")?)
+    said(alloc, &boot.target(number(start), number(least)))
 }
 
 fn numbers(alloc: Global, boot: &Boot<Log, Store>) -> Result<String, Fail> {

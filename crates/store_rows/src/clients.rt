@@ -3,9 +3,9 @@ ghost use Rattle.client_switch.specs.Client.{IsAskOf, asks};
 
 use crate::keepers::Store;
 use crate::told::Told;
-use crate::words::{cut, small, text};
+use crate::words::{cut, said, small, text};
 use bus_wire::Ask;
-use client_switch::Client;
+use client_switch::{Client, ClientOpen, TakeFault, Took};
 use partition_filter::Filter;
 use std::alloc::Global;
 use std::test::Fail;
@@ -15,11 +15,16 @@ pub fn open_client(
     alloc: Global,
     keeper: &mut Store,
     filter: &str,
-) -> Result<(String, Option<Client>), Fail> {
+) -> Result<Result<Client, ClientOpen>, Fail> {
     let filter = Filter::read(alloc, filter)?;
-    match Client::open(alloc, keeper, filter) {
-        Err(fault) => Ok((format!(in alloc; "{fault:?}")?, None)),
-        Ok(client) => Ok((client_text(alloc, &client)?, Some(client))),
+    Ok(Client::open(alloc, keeper, filter))
+}
+
+/// What an opened client is, or why there is none.
+pub fn opened_text(alloc: Global, opened: &Result<Client, ClientOpen>) -> Result<String, Fail> {
+    match opened {
+        Err(fault) => said(alloc, fault),
+        Ok(client) => client_text(alloc, client),
     }
 }
 
@@ -55,33 +60,38 @@ fn ask_of(alloc: Global, client: &Client, most: u32) -> Option<Ask>
 }
 
 fn ask(alloc: Global, client: &Client, most: u32) -> Result<String, Fail> {
-    let Some(ask) = ask_of(alloc, client, most) else {
-        return text(alloc, "nothing");
-    };
-    match ask {
-        Ask::Stream { scn, max, .. } => Ok(format!(in alloc; "stream {scn} {max}")?),
-        Ask::Start { since, fresh } => Ok(format!(in alloc; "start {since} {fresh}")?),
+    match ask_of(alloc, client, most) {
+        None => text(alloc, "nothing"),
+        Some(ask) => ask_text(alloc, &ask),
+    }
+}
+
+fn ask_text(alloc: Global, ask: &Ask) -> Result<String, Fail> {
+    let told = match ask {
+        Ask::Stream { scn, max, .. } => format!(in alloc; "stream {scn} {max}"),
+        Ask::Start { since, fresh } => format!(in alloc; "start {since} {fresh}"),
         Ask::Scan {
             start,
             cursor,
             max,
             ..
-        } => Ok(format!(in alloc; "scan {start} {cursor:?} {max}")?),
-        Ask::Target { start, atleast } => Ok(format!(in alloc; "target {start} {atleast}")?),
+        } => format!(in alloc; "scan {start} {cursor:?} {max}"),
+        Ask::Target { start, atleast } => format!(in alloc; "target {start} {atleast}"),
         Ask::Catchup {
             at,
             target,
             max,
             ..
-        } => Ok(format!(in alloc; "catchup {at} {target} {max}")?),
+        } => format!(in alloc; "catchup {at} {target} {max}"),
         Ask::Delta {
             since,
             target,
             cursor,
             max,
             ..
-        } => Ok(format!(in alloc; "delta {since} {target} {cursor:?} {max}")?),
-    }
+        } => format!(in alloc; "delta {since} {target} {cursor:?} {max}"),
+    };
+    Ok(told?)
 }
 
 // Asks for 1,000 bytes, and takes the reply, with a consumer that refuses after so many callbacks.
@@ -97,5 +107,10 @@ fn take(
     };
     let mut told = Told::new(alloc, most);
     let answer = client.take(alloc, &ask, reply, keeper, &mut told);
+    took_text(alloc, &answer, &told)
+}
+
+// What was taken, and what the consumer was told.
+fn took_text(alloc: Global, answer: &Result<Took, TakeFault>, told: &Told) -> Result<String, Fail> {
     Ok(format!(in alloc; "{answer:?}{}", told.text)?)
 }

@@ -1,11 +1,11 @@
 use crate::boots::boot_answer;
-use crate::clients::{client_answer, open_client};
+use crate::clients::{client_answer, open_client, opened_text};
 use crate::keepers::{Store, keeper_answer, new_keeper};
 use crate::logs::{Log, apply_windows, log_answer, new_log};
 use crate::marks::{boot_mark_answer, mark_answer};
-use crate::words::{cut, text};
+use crate::words::{bytes_of, cut, said, text};
 use bootstrap_core::Boot;
-use client_switch::Client;
+use client_switch::{Client, ClientOpen};
 use std::alloc::Global;
 use std::test::Fail;
 
@@ -64,12 +64,8 @@ impl Desk {
 
     // The bytes of a reply, in hexadecimal digits and spaces.
     fn begin_reply(&mut self, alloc: Global, rest: &str) -> Result<String, Fail> {
-        self.reply = Vec::new(alloc);
-        for part in rest.split_whitespace() {
-            let bytes = hex::decode(alloc, part.as_bytes())?;
-            self.reply.extend_from_slice(&bytes)?;
-        }
-        Ok(format!(in alloc; "{} bytes", self.reply.len())?)
+        self.reply = bytes_of(alloc, rest)?;
+        count_text(alloc, self.reply.len())
     }
 
     fn on_keeper(&mut self, alloc: Global, rest: &str) -> Result<String, Fail> {
@@ -98,16 +94,22 @@ impl Desk {
             return text(alloc, "no log or no keeper");
         };
         match Boot::open(alloc, log, keeper) {
-            Ok(boot) => {
-                self.boot = Some(boot);
-                text(alloc, "open")
-            }
+            Ok(boot) => self.put_boot(alloc, boot),
             Err((fault, log, keeper)) => {
-                self.log = Some(log);
-                self.keeper = Some(keeper);
-                Ok(format!(in alloc; "{fault:?}")?)
+                self.put_parts(log, keeper);
+                said(alloc, &fault)
             }
         }
+    }
+
+    fn put_boot(&mut self, alloc: Global, boot: Boot<Log, Store>) -> Result<String, Fail> {
+        self.boot = Some(boot);
+        text(alloc, "open")
+    }
+
+    fn put_parts(&mut self, log: Log, keeper: Store) {
+        self.log = Some(log);
+        self.keeper = Some(keeper);
     }
 
     fn on_boot(&mut self, alloc: Global, rest: &str) -> Result<String, Fail> {
@@ -123,8 +125,7 @@ impl Desk {
             return text(alloc, "no bootstrap");
         };
         let (log, keeper) = boot.parts();
-        self.log = Some(log);
-        self.keeper = Some(keeper);
+        self.put_parts(log, keeper);
         text(alloc, "log and keeper")
     }
 
@@ -132,9 +133,18 @@ impl Desk {
         let Some(keeper) = &mut self.keeper else {
             return text(alloc, "no keeper");
         };
-        let (told, client) = open_client(alloc, keeper, rest)?;
-        self.client = client;
-        Ok(told)
+        let opened = open_client(alloc, keeper, rest)?;
+        self.put_client(alloc, opened)
+    }
+
+    fn put_client(
+        &mut self,
+        alloc: Global,
+        opened: Result<Client, ClientOpen>,
+    ) -> Result<String, Fail> {
+        let told = opened_text(alloc, &opened);
+        self.client = opened.ok();
+        told
     }
 
     fn on_client(&mut self, alloc: Global, rest: &str) -> Result<String, Fail> {
@@ -143,4 +153,8 @@ impl Desk {
             _ => text(alloc, "no client or no keeper"),
         }
     }
+}
+
+fn count_text(alloc: Global, count: usize) -> Result<String, Fail> {
+    Ok(format!(in alloc; "{count} bytes")?)
 }

@@ -1,7 +1,7 @@
 use crate::quiet::Quiet;
-use crate::words::{changes, cursor, cut, listed, number, shown, text};
+use crate::words::{add_put, changes, cursor, cut, listed, mark_text, number, said, shown, text};
 use bus_stores::{Commit, Keeper, MemoryKeeper, all_rows, take};
-use bus_types::{Change, Count, Key, MarkText, Payload, Rows};
+use bus_types::{Change, Count, Key, MarkText, Rows};
 use std::alloc::Global;
 use std::fmt::Write;
 use std::test::Fail;
@@ -38,59 +38,59 @@ pub fn keeper_answer(alloc: Global, keeper: &mut Store, row: &str) -> Result<Str
 
 fn arm(alloc: Global, keeper: &mut Store, after: bool) -> Result<String, Fail> {
     keeper.inner.arm(after);
-    let armed = keeper.inner.armed();
-    Ok(format!(in alloc; "{armed:?}")?)
+    said(alloc, &keeper.inner.armed())
 }
 
 fn calls(alloc: Global, keeper: &Store) -> Result<String, Fail> {
-    Ok(format!(in alloc; "{}", keeper.inner.calls())?)
+    said(alloc, &keeper.inner.calls())
+}
+
+// A mark and changes.
+fn batch_of(alloc: Global, row: &str) -> Result<(MarkText, Vec<Change>), Fail> {
+    let (mark, rest) = cut(row);
+    let batch = changes(alloc, rest)?;
+    let mark = mark_text(alloc, mark)?;
+    Ok((mark, batch))
 }
 
 fn commit(alloc: Global, keeper: &mut Store, row: &str) -> Result<String, Fail> {
     let (kind, rest) = cut(row);
-    let (mark, rest) = cut(rest);
-    let batch = changes(alloc, rest)?;
-    let mark = MarkText::new(alloc, mark.as_bytes())?;
-    let answer = keeper.commit(alloc, kind == "clear", &batch, &mark);
-    Ok(format!(in alloc; "{answer:?}")?)
+    let (mark, batch) = batch_of(alloc, rest)?;
+    said(alloc, &keeper.commit(alloc, kind == "clear", &batch, &mark))
 }
 
 fn take_commit(alloc: Global, keeper: &mut Store, row: &str) -> Result<String, Fail> {
-    let (mark, rest) = cut(row);
-    let batch = changes(alloc, rest)?;
-    let mark = MarkText::new(alloc, mark.as_bytes())?;
+    let (mark, batch) = batch_of(alloc, row)?;
     let commit = Commit {
         clear: false,
         batch,
         mark: &mark,
     };
-    let answer = take(alloc, keeper, Some(commit));
-    Ok(format!(in alloc; "{answer:?}")?)
+    said(alloc, &take(alloc, keeper, Some(commit)))
 }
 
 fn take_nothing(alloc: Global, keeper: &mut Store) -> Result<String, Fail> {
-    let answer = take(alloc, keeper, None);
-    Ok(format!(in alloc; "{answer:?}")?)
+    said(alloc, &take(alloc, keeper, None))
 }
 
 // Commits puts of the keys 0, 1, ..
 fn fill(alloc: Global, keeper: &mut Store, count: u64) -> Result<String, Fail> {
+    let batch = puts(alloc, count)?;
+    let mark = mark_text(alloc, "full")?;
+    said(alloc, &keeper.commit(alloc, true, &batch, &mark))
+}
+
+fn puts(alloc: Global, count: u64) -> Result<Vec<Change>, Fail> {
     let mut batch = Vec::new(alloc);
     for key in 0..count {
-        batch.push(Change {
-            source: 0,
-            key: Key::Long(key),
-            put: Some(Payload::new(alloc, b"x")?),
-        })?;
+        add_put(alloc, &mut batch, key, "x")?;
     }
-    let mark = MarkText::new(alloc, b"full")?;
-    let answer = keeper.commit(alloc, true, &batch, &mark);
-    Ok(format!(in alloc; "{answer:?}")?)
+    Ok(batch)
 }
 
 fn mark(alloc: Global, keeper: &mut Store) -> Result<String, Fail> {
     match keeper.mark(alloc) {
-        Err(fault) => Ok(format!(in alloc; "{fault:?}")?),
+        Err(fault) => said(alloc, &fault),
         Ok(None) => text(alloc, "none"),
         Ok(Some(mark)) => text(alloc, shown(mark.bytes())),
     }
@@ -98,7 +98,7 @@ fn mark(alloc: Global, keeper: &mut Store) -> Result<String, Fail> {
 
 fn row_of(alloc: Global, keeper: &mut Store, key: u64) -> Result<String, Fail> {
     match keeper.row(alloc, 0, &Key::Long(key)) {
-        Err(fault) => Ok(format!(in alloc; "{fault:?}")?),
+        Err(fault) => said(alloc, &fault),
         Ok(None) => text(alloc, "none"),
         Ok(Some(payload)) => text(alloc, shown(payload.bytes())),
     }
@@ -113,14 +113,14 @@ fn rows(alloc: Global, keeper: &mut Store, row: &str) -> Result<String, Fail> {
         return text(alloc, "at least one");
     }
     match keeper.rows_after(alloc, &cursor(place), most) {
-        Err(fault) => Ok(format!(in alloc; "{fault:?}")?),
+        Err(fault) => said(alloc, &fault),
         Ok(rows) => rows_text(alloc, &rows),
     }
 }
 
 fn all(alloc: Global, keeper: &mut Store) -> Result<String, Fail> {
     match all_rows(alloc, keeper) {
-        Err(fault) => Ok(format!(in alloc; "{fault:?}")?),
+        Err(fault) => said(alloc, &fault),
         Ok(rows) => last_text(alloc, &rows),
     }
 }

@@ -2,7 +2,7 @@ ghost use Rattle.std.specs.Prelude.{◌≡◌, ◌<◌, length, IfSome};
 
 use crate::keepers::Store;
 use crate::quiet_log::QuietLog;
-use crate::words::{changes, cut, listed, number, small, text};
+use crate::words::{changes, cut, listed, number, said, small, text};
 use bus_stores::{MemoryLog, WindowLog, next_windows};
 use bus_types::{Change, Count, Window};
 use snapshot_applier::{BootMark, apply};
@@ -53,8 +53,7 @@ fn append(alloc: Global, log: &mut Log, row: &str) -> Result<String, Fail> {
     let Some(window) = window(number(scn), log.high(), changes) else {
         return text(alloc, "no window");
     };
-    let answer = log.append(alloc, &window);
-    Ok(format!(in alloc; "{answer:?}")?)
+    said(alloc, &log.append(alloc, &window))
 }
 
 fn next(alloc: Global, log: &mut Log, scn: u64) -> Result<String, Fail> {
@@ -62,14 +61,14 @@ fn next(alloc: Global, log: &mut Log, scn: u64) -> Result<String, Fail> {
         return text(alloc, "below the floor");
     }
     match log.next(alloc, scn) {
-        Err(fault) => Ok(format!(in alloc; "{fault:?}")?),
+        Err(fault) => said(alloc, &fault),
         Ok(None) => text(alloc, "none"),
-        Ok(Some(window)) => Ok(format!(in alloc;
-            "window {} behind {}",
-            window.scn(),
-            window.prev()
-        )?),
+        Ok(Some(window)) => window_text(alloc, &window),
     }
+}
+
+fn window_text(alloc: Global, window: &Window) -> Result<String, Fail> {
+    Ok(format!(in alloc; "window {} behind {}", window.scn(), window.prev())?)
 }
 
 fn windows(alloc: Global, log: &mut Log, row: &str) -> Result<String, Fail> {
@@ -79,7 +78,7 @@ fn windows(alloc: Global, log: &mut Log, row: &str) -> Result<String, Fail> {
         return text(alloc, "below the floor");
     }
     match next_windows(alloc, log, scn, small(most).min(64) as usize) {
-        Err(fault) => Ok(format!(in alloc; "{fault:?}")?),
+        Err(fault) => said(alloc, &fault),
         Ok(windows) => windows_text(alloc, &windows),
     }
 }
@@ -93,8 +92,7 @@ fn windows_text(alloc: Global, windows: &[Window]) -> Result<String, Fail> {
 }
 
 fn drop_through(alloc: Global, log: &mut Log, scn: u64) -> Result<String, Fail> {
-    let answer = log.drop_through(alloc, scn);
-    Ok(format!(in alloc; "{answer:?}")?)
+    said(alloc, &log.drop_through(alloc, scn))
 }
 
 fn ends(alloc: Global, log: &Log) -> Result<String, Fail> {
@@ -102,11 +100,11 @@ fn ends(alloc: Global, log: &Log) -> Result<String, Fail> {
 }
 
 fn full(alloc: Global, log: &Log, size: u64) -> Result<String, Fail> {
-    Ok(format!(in alloc; "{}", log.is_full(size))?)
+    said(alloc, &log.is_full(size))
 }
 
 fn calls(alloc: Global, log: &Log) -> Result<String, Fail> {
-    Ok(format!(in alloc; "{}", log.inner.calls())?)
+    said(alloc, &log.inner.calls())
 }
 
 /// Applies at most so many windows of the log behind a boot mark that it reaches: BASE, APPLIED and how many.
@@ -129,6 +127,5 @@ pub fn apply_windows(
     if mark.base > mark.applied || mark.applied < log.floor() || mark.applied > log.high() {
         return text(alloc, "out of reach");
     }
-    let answer = apply(alloc, log, keeper, &mark, most);
-    Ok(format!(in alloc; "{answer:?}")?)
+    said(alloc, &apply(alloc, log, keeper, &mark, most))
 }

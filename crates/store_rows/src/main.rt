@@ -25,8 +25,12 @@ const ROWS: &str = "rows";
 fn main(rt: HostRuntime) -> Result<(), Fail> {
     let rows = fs::read_to_string(&rt, ROWS)?;
     let mut desk = Desk::new(rt.alloc());
+    show_rows(&rt, &mut desk, &rows)
+}
+
+fn show_rows(rt: &HostRuntime, desk: &mut Desk, rows: &str) -> Result<(), Fail> {
     for row in rows.lines() {
-        show(&rt, &mut desk, row)?;
+        show(rt, desk, row)?;
     }
     Ok(())
 }
@@ -37,6 +41,10 @@ fn show(rt: &HostRuntime, desk: &mut Desk, row: &str) -> Result<(), Fail> {
     if row.is_empty() || row.starts_with('#') {
         return Ok(());
     }
+    show_answer(rt, desk, row)
+}
+
+fn show_answer(rt: &HostRuntime, desk: &mut Desk, row: &str) -> Result<(), Fail> {
     let answer = desk.answer(rt.alloc(), row)?;
     println!(rt; "    {answer}")?;
     Ok(())

@@ -1,6 +1,7 @@
 use bus_stores::Fail as Listed;
-use bus_types::{Change, Cursor, Key, Payload, read_number};
+use bus_types::{Change, Cursor, Key, MarkText, Payload, read_number};
 use std::alloc::Global;
+use std::fmt::Debug;
 use std::str;
 use std::test::Fail;
 
@@ -23,21 +24,56 @@ pub fn small(word: &str) -> u32 {
 pub fn changes(alloc: Global, text: &str) -> Result<Vec<Change>, Fail> {
     let mut changes = Vec::new(alloc);
     for word in text.split_whitespace() {
-        changes.push(change(alloc, word)?)?;
+        add_change(alloc, &mut changes, word)?;
     }
     Ok(changes)
 }
 
-fn change(alloc: Global, word: &str) -> Result<Change, Fail> {
-    let (key, put) = match word.split_once('=') {
-        None => (word, None),
-        Some((key, bytes)) => (key, Some(Payload::new(alloc, bytes.as_bytes())?)),
-    };
-    Ok(Change {
+fn add_change(alloc: Global, changes: &mut Vec<Change>, word: &str) -> Result<(), Fail> {
+    match word.split_once('=') {
+        None => add(changes, number(word), None),
+        Some((key, bytes)) => add_put(alloc, changes, number(key), bytes),
+    }
+}
+
+/// Adds the put of a key in source 0.
+pub fn add_put(
+    alloc: Global,
+    changes: &mut Vec<Change>,
+    key: u64,
+    bytes: &str,
+) -> Result<(), Fail> {
+    let payload = Payload::new(alloc, bytes.as_bytes())?;
+    add(changes, key, Some(payload))
+}
+
+fn add(changes: &mut Vec<Change>, key: u64, put: Option<Payload>) -> Result<(), Fail> {
+    changes.push(Change {
         source: 0,
-        key: Key::Long(number(key)),
+        key: Key::Long(key),
         put,
-    })
+    })?;
+    Ok(())
+}
+
+/// The text of a mark.
+pub fn mark_text(alloc: Global, words: &str) -> Result<MarkText, Fail> {
+    Ok(MarkText::new(alloc, words.as_bytes())?)
+}
+
+/// The bytes of hexadecimal digits and spaces.
+pub fn bytes_of(alloc: Global, digits: &str) -> Result<Vec<u8>, Fail> {
+    let mut bytes = Vec::new(alloc);
+    for part in digits.split_whitespace() {
+        add_bytes(alloc, &mut bytes, part)?;
+    }
+    Ok(bytes)
+}
+
+fn add_bytes(alloc: Global, bytes: &mut Vec<u8>, digits: &str) -> Result<(), Fail> {
+    let part = hex::decode(alloc, digits.as_bytes())?;
+    bytes.extend_from_slice(&part)?;
+    Ok(())
 }
 
 /// The calls that are to fail: the number of each, with a `+` where a commit or an append is to fail after it counts.
@@ -74,6 +110,11 @@ pub fn cursor(word: &str) -> Cursor {
 /// The text of some bytes.
 pub fn shown(bytes: &[u8]) -> &str {
     str::from_utf8(bytes).unwrap_or("no text")
+}
+
+/// What a call answered.
+pub fn said(alloc: Global, answer: &impl Debug) -> Result<String, Fail> {
+    Ok(format!(in alloc; "{answer:?}")?)
 }
 
 /// A text of its own.
