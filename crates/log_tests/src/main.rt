@@ -9,6 +9,7 @@ mod run;
 use found::open;
 use log_disk::{MemoryDisk, Pick};
 use run::stopped;
+use std::alloc::Global;
 use std::io;
 
 // The calls of a disk at which it stops, and one that comes to none.
@@ -17,27 +18,85 @@ const STOPS: u64 = 15;
 // The call at which the window stands and isn't freed yet.
 const FREES: u64 = 12;
 
+// What a crash leaves.
+const PICKS: [Pick; 4] = [Pick::Synced, Pick::Read, Pick::Fill(0xa5), Pick::Fill(0)];
+
 fn main(rt: HostRuntime) -> io::Result<()> {
+    show_stops(&rt)?;
+    show_disk(&rt)?;
+    show_lines(&rt)
+}
+
+fn show_stops(rt: &HostRuntime) -> io::Result<()> {
     for stop in 0..STOPS {
-        print!(rt; "stop {stop}:")?;
-        for pick in [Pick::Synced, Pick::Read, Pick::Fill(0xa5), Pick::Fill(0)] {
-            let disk = at_stop(&rt, stop)?.crash(pick);
-            print!(rt; " {}", open(rt.alloc(), disk))?;
-        }
-        println!(rt; "")?;
-    }
-    let disk = at_stop(&rt, FREES)?.crash(Pick::Synced);
-    println!(rt; "{}", hex::encode(rt.alloc(), disk.bytes())?)?;
-    for line in rt.lines(rt.alloc()) {
-        let Ok(bytes) = hex::decode(rt.alloc(), line?.as_str()) else {
-            return Err(io::ErrorKind::InvalidInput.into());
-        };
-        let Ok(disk) = MemoryDisk::new(rt.alloc(), &bytes, bytes.len() as u64, 16, &[]) else {
-            return Err(io::ErrorKind::OutOfMemory.into());
-        };
-        println!(rt; "{}", open(rt.alloc(), disk))?;
+        show_stop(rt, stop)?;
     }
     Ok(())
+}
+
+// Prints what is opened after a stop at a call.
+fn show_stop(rt: &HostRuntime, stop: u64) -> io::Result<()> {
+    print!(rt; "stop {stop}:")?;
+    show_picks(rt, stop)?;
+    println!(rt; "")
+}
+
+fn show_picks(rt: &HostRuntime, stop: u64) -> io::Result<()> {
+    for pick in PICKS {
+        show_pick(rt, stop, pick)?;
+    }
+    Ok(())
+}
+
+fn show_pick(rt: &HostRuntime, stop: u64, pick: Pick) -> io::Result<()> {
+    let disk = at_stop(rt, stop)?;
+    show_found(rt, " ", disk.crash(pick))
+}
+
+// Prints what is opened of a disk.
+fn show_found(rt: &HostRuntime, before: &str, disk: MemoryDisk) -> io::Result<()> {
+    let found = open(rt.alloc(), disk);
+    print!(rt; "{before}{found}")
+}
+
+// Prints the bytes of the disk whose window stands and isn't freed yet.
+fn show_disk(rt: &HostRuntime) -> io::Result<()> {
+    let disk = at_stop(rt, FREES)?;
+    show_bytes(rt, &disk.crash(Pick::Synced))
+}
+
+fn show_bytes(rt: &HostRuntime, disk: &MemoryDisk) -> io::Result<()> {
+    let text = hex::encode(rt.alloc(), disk.bytes())?;
+    println!(rt; "{text}")
+}
+
+// Prints what is opened of the bytes of each line.
+fn show_lines(rt: &HostRuntime) -> io::Result<()> {
+    for line in rt.lines(rt.alloc()) {
+        show_line(rt, line?)?;
+    }
+    Ok(())
+}
+
+fn show_line(rt: &HostRuntime, line: String) -> io::Result<()> {
+    let disk = disk_of(rt.alloc(), &line)?;
+    show_found(rt, "", disk)?;
+    println!(rt; "")
+}
+
+// A disk with the bytes of a line, in hex.
+fn disk_of(alloc: Global, line: &str) -> io::Result<MemoryDisk> {
+    let Ok(bytes) = hex::decode(alloc, line) else {
+        return Err(io::ErrorKind::InvalidInput.into());
+    };
+    disk_with(alloc, &bytes)
+}
+
+fn disk_with(alloc: Global, bytes: &[u8]) -> io::Result<MemoryDisk> {
+    let Ok(disk) = MemoryDisk::new(alloc, bytes, bytes.len() as u64, 16, &[]) else {
+        return Err(io::ErrorKind::OutOfMemory.into());
+    };
+    Ok(disk)
 }
 
 // The disk that stopped at this call.
