@@ -1,30 +1,41 @@
-use crate::boots::{put, window};
-use crate::words::{bytes_of, shown};
-use bus_io::{MemoryConn, MemorySink, MemorySource};
+use crate::conns::{ROOM, new_conn, show_end};
+use crate::windows::window_at;
 use plain_buffer::PlainBuffer;
 use relay_server::serve_buffer;
 use std::alloc::Global;
 use std::test::Fail;
 
-/// Prints what a connection that gives a text is answered by a relay that has one window, 10, and how its serving ended.
-pub fn show_relayed(rt: &HostRuntime, text: &str) -> Result<(), Fail> {
-    let buffer = new_buffer(rt.alloc())?;
-    let bytes = bytes_of(rt.alloc(), text)?;
-    let source = MemorySource::new(rt.alloc(), &bytes, &[])?;
-    let sink = MemorySink::new(rt.alloc(), 65_536, &[])?;
-    let mut conn = MemoryConn::new(source, sink);
+/// The most bytes that a relay keeps.
+pub const MOST_BYTES: u64 = 1_048_576;
+
+/// The most windows that a relay keeps.
+pub const MOST_WINDOWS: u32 = 2;
+
+/// Prints what a connection that gives a text is answered by a relay's buffer to which the windows 10, 20, .. were published, so
+/// many, and how its serving ended.
+pub fn show_relayed(rt: &HostRuntime, windows: u64, text: &str) -> Result<(), Fail> {
+    let buffer = new_buffer(rt.alloc(), windows)?;
+    let mut conn = new_conn(rt.alloc(), text, ROOM, &[], &[])?;
     let end = serve_buffer(rt.alloc(), &buffer, &mut conn);
-    println!(rt; "    {}", shown(rt.alloc(), conn.written())?)?;
-    println!(rt; "    {end:?}")?;
-    Ok(())
+    show_end(rt, &conn, end)
 }
 
-fn new_buffer(alloc: Global) -> Result<PlainBuffer, Fail> {
-    let mut buffer = PlainBuffer::new(alloc, 1_048_576, 2)?;
-    let mut changes = Vec::new(alloc);
-    changes.push(put(alloc, 1, 10)?)?;
-    if let Some(window) = window(10, buffer.tail(), changes) {
-        buffer.publish(alloc, &window)?;
+fn new_buffer(alloc: Global, windows: u64) -> Result<PlainBuffer, Fail> {
+    let mut buffer = PlainBuffer::new(alloc, MOST_BYTES, MOST_WINDOWS)?;
+    for position in 0..windows {
+        publish(alloc, &mut buffer, position)?;
     }
     Ok(buffer)
+}
+
+// Publishes a window where it is the next one.
+fn publish(alloc: Global, buffer: &mut PlainBuffer, position: u64) -> Result<(), Fail> {
+    let Some(window) = window_at(alloc, position) else {
+        return Err(Fail::new("a window that can't be made"));
+    };
+    if window.prev() != buffer.tail() {
+        return Err(Fail::new("a window that isn't the next one"));
+    }
+    buffer.publish(alloc, &window)?;
+    Ok(())
 }
