@@ -7,7 +7,7 @@ ghost use Rattle.client_switch.specs.Batch.{first_changes};
 ghost use Rattle.client_switch.specs.Turning.{items_of};
 
 use bus_types::{Change, NoMemory};
-use event_codec::{ReplyView, Run, Shape, Windows};
+use event_codec::{MARK_SIZE, ReplyView, Run, Shape, Windows};
 use std::alloc::Global;
 
 // Takes the events of the window in front: their changes are appended, and its mark is left.
@@ -56,17 +56,25 @@ fn run_changes(alloc: Global, run: &Run<'_>, room: Vec<Change>) -> Result<Vec<Ch
     Ok(changes)
 }
 
-// Room for a change of each window, or for each change, of a reply of that shape.
-fn room_for(alloc: Global, shape: &Shape) -> Result<Vec<Change>, NoMemory>
+// The bytes of a change, as many as one takes that puts a payload of middling length.
+const USUAL_CHANGE: usize = 50;
+
+// About as many changes as windows of so many bytes have.
+fn likely_changes(windows: u32, bytes: usize) -> usize {
+    bytes.saturating_sub((windows as usize).saturating_mul(MARK_SIZE)) / USUAL_CHANGE
+}
+
+// Room for the changes of a reply of that shape and of so many bytes: no more than a reply of few changes needs.
+fn room_for(alloc: Global, shape: &Shape, bytes: usize) -> Result<Vec<Change>, NoMemory>
     ensures { IfOk result (λ room. room.items ≡ []) }
 {
     let count = match *shape {
-        Shape::Windows { count, .. } => count,
-        Shape::Rows { count, .. } => count,
-        Shape::Changes { count, .. } => count,
+        Shape::Windows { count, .. } => likely_changes(count, bytes),
+        Shape::Rows { count, .. } => count as usize,
+        Shape::Changes { count, .. } => count as usize,
         Shape::Only(_) => 0,
     };
-    Ok(Vec::with_capacity(alloc, count as usize)?)
+    Ok(Vec::with_capacity(alloc, count)?)
 }
 
 /// The changes of a reply of that shape, in order. Each payload is copied once.
@@ -78,7 +86,7 @@ pub(crate) fn reply_changes(
     requires { (r : Reply) × Spells shape.now bytes.now r }
     ensures { IfOk result (λ changes. (r : Reply) → Spells shape.now bytes.now r → changes.items ≡ items_of r) }
 {
-    let room = room_for(alloc, shape)?;
+    let room = room_for(alloc, shape, bytes.len())?;
     match ReplyView::of(shape, bytes) {
         ReplyView::Windows(windows) => windows_changes(alloc, &windows, room),
         ReplyView::Rows { run, .. } => run_changes(alloc, &run, room),
