@@ -16,7 +16,7 @@ use Rattle.bus_http.specs.declared.service.ServeEnd.{ServeEnd}
 use Rattle.bus_http.specs.declared.service.ServeEnd.TheVariants.{Closed, BadRequest, ReadFault, WriteFault, TooMany, NoMemory}
 use Rattle.bus_http.specs.Talks.{Turn, Where, IsRefused, Refuses, Due, Ends, IsClosing, Talks, Served}
 use Rattle.range_ring.specs.Belonging.{RingIs, PassIs}
-use Rattle.relay_server.specs.Buffered.{KeepsRelay}
+use Rattle.relay_server.specs.Steady.{KeepsRelay}
 use Rattle.relay_server.specs.Shared.{MayShare, KeepsPass}
 use Rattle.relay_node.specs.Passing.{SeesAll}
 use Rattle.relay_node.specs.Serving.{MayReply, ServesRelay}

@@ -10,7 +10,7 @@ use Rattle.bus_http.specs.declared.service.ServeEnd.TheVariants as ends
 use Rattle.bus_http.specs.declared.route.Side.TheVariants.{Relay as RelaySide}
 use Rattle.bus_http.specs.Talks.{Served}
 use Rattle.bus_link.specs.Links.{Told, with_port, with_shut}
-use Rattle.relay_server.specs.Buffered.{MayRelay, KeepsRelay}
+use Rattle.relay_server.specs.Steady.{MayRelay, KeepsRelay}
 use Rattle.bus_node.specs.Doors.{Visit, Visits}
 
 -- the bytes are a reply to an ask for a stream, of which it isn't said which windows it has

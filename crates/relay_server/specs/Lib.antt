@@ -1,2 +1,2 @@
-pub mod Buffered
+pub mod Steady
 pub mod Shared

@@ -1,5 +1,6 @@
 use crate::Load;
 use crate::reading::{Reading, both, nanoseconds, sum_of};
+use crate::shared::{MOST_RING_BYTES, MOST_RING_WINDOWS};
 use crate::windows::window_of;
 use bus_io::GrowingSink;
 use bus_types::{Everything, Window};
@@ -13,14 +14,9 @@ use std::{io, mem, thread};
 // The most bytes of what a reader is served at once.
 const MOST_BYTES: u32 = 4_194_304;
 
-// The most bytes and windows of the buffer, as a ring's.
-const MOST_BUFFER_BYTES: u64 = 67_108_864;
-
-const MOST_BUFFER_WINDOWS: u32 = 4096;
-
-// Publishes the first 1024 windows, so that the readers have what to read from the start.
+// Publishes as many windows as the buffer has room for, so that the readers have what to read from the start.
 fn fill(alloc: Global, buffer: &mut PlainBuffer, load: Load) -> io::Result<()> {
-    for prev in 0..1024 {
+    for prev in 0..load.first {
         let Some(window) = window_of(alloc, prev + 1, load.payload) else {
             return Err(io::ErrorKind::OutOfMemory.into());
         };
@@ -31,9 +27,9 @@ fn fill(alloc: Global, buffer: &mut PlainBuffer, load: Load) -> io::Result<()> {
     Ok(())
 }
 
-// Publishes the windows behind the first 1024, up to so many.
+// Publishes the windows behind the first ones, up to so many.
 fn feed<R: Wait>(rt: &R, alloc: Global, shared: &Mutex<PlainBuffer>, load: Load) -> Option<()> {
-    for prev in 1024..load.windows {
+    for prev in load.first..load.windows {
         let window = window_of(alloc, prev.checked_add(1)?, load.payload)?;
         publish(alloc, &mut shared.lock(rt), &window)?;
     }
@@ -135,7 +131,7 @@ pub(crate) fn race_locked<R: Threads + Wait + Clock + Sync>(
     readers: u64,
     load: Load,
 ) -> io::Result<Reading> {
-    let Ok(mut buffer) = PlainBuffer::new(alloc, MOST_BUFFER_BYTES, MOST_BUFFER_WINDOWS) else {
+    let Ok(mut buffer) = PlainBuffer::new(alloc, MOST_RING_BYTES, MOST_RING_WINDOWS) else {
         return Err(io::ErrorKind::OutOfMemory.into());
     };
     fill(alloc, &mut buffer, load)?;

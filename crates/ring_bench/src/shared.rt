@@ -15,10 +15,11 @@ use std::{io, thread};
 // The most bytes of what a reader opens at once.
 const MOST_BYTES: u32 = 4_194_304;
 
-// The most bytes and windows of the ring, so that a reader has many windows to read.
-const MOST_RING_BYTES: u64 = 67_108_864;
+/// The most bytes of a ring.
+pub(crate) const MOST_RING_BYTES: u64 = 67_108_864;
 
-const MOST_RING_WINDOWS: u32 = 4096;
+/// The most windows of a ring.
+pub(crate) const MOST_RING_WINDOWS: u32 = 65_536;
 
 // The sum of the bytes of a range's windows.
 fn sum_of_range(range: &Range<'_, Untold, Everything>) -> u64 {
@@ -29,7 +30,7 @@ fn sum_of_range(range: &Range<'_, Untold, Everything>) -> u64 {
     sum
 }
 
-// Publishes the first 1024 windows, so that the readers have what to read from the start.
+// Publishes as many windows as the ring has room for, so that the readers have what to read from the start.
 fn fill<R: Wait>(
     rt: &R,
     alloc: Global,
@@ -40,9 +41,9 @@ fn fill<R: Wait>(
     requires home { feeder.old.home ≡ ring.now }
     requires first { feeder.old.published ≡ 0 }
     ensures home { feeder.new.home ≡ ring.now }
-    ensures published { OnOk result (feeder.new.published ≡ 1024) }
+    ensures published { OnOk result (feeder.new.published ≡ load.first) }
 {
-    for prev in 0..1024 {
+    for prev in 0..load.first {
         let Some(()) = publish(rt, alloc, ring, feeder, prev, load.payload) else {
             return Err(io::ErrorKind::OutOfMemory.into());
         };
@@ -50,7 +51,7 @@ fn fill<R: Wait>(
     Ok(())
 }
 
-// Publishes the windows behind the first 1024, up to so many.
+// Publishes the windows behind the first ones, up to so many.
 fn feed<R: Wait>(
     rt: &R,
     alloc: Global,
@@ -59,9 +60,9 @@ fn feed<R: Wait>(
     load: Load,
 ) -> Option<()>
     requires home { feeder.old.home ≡ ring.now }
-    requires first { feeder.old.published ≡ 1024 }
+    requires first { feeder.old.published ≡ load.first }
 {
-    for prev in 1024..load.windows {
+    for prev in load.first..load.windows {
         publish(rt, alloc, ring, feeder, prev, load.payload)?;
     }
     Some(())

@@ -1,19 +1,17 @@
-//! Rows of connections to a bootstrap and to a relay, by its buffer and by a pass of a shared ring: it prints each line of `data/rows`,
-//! what was written to the connection and how its serving ended. Each is served by a new bootstrap or a new relay. What has to be
-//! printed stands in `stdout`, from outside the program. It stands on `bootstrap_server` and `relay_server`, and on `bus_stores`,
-//! `plain_buffer`, `range_ring` and `bus_io` for what is served and for connections in memory; nothing stands on it.
+//! Rows of connections to a bootstrap, and to a relay by a pass of a shared ring: it prints each line of `data/rows`, what was written
+//! to the connection and how its serving ended. Each is served by a new bootstrap or a new relay. What has to be printed stands in
+//! `stdout`, from outside the program. It stands on `bootstrap_server` and `relay_server`, and on `bus_stores`, `range_ring` and
+//! `bus_io` for what is served and for connections in memory; nothing stands on it.
 #![tactic(auto)]
 
 mod boots;
 mod conns;
-mod relays;
 mod rings;
 mod windows;
 mod words;
 
 use boots::{BREAK, NEVER, show_served};
 use conns::ROOM;
-use relays::show_relayed;
 use rings::show_shared;
 use std::fs;
 use std::sync::Wait;
@@ -38,8 +36,6 @@ fn show(rt: &HostRuntime, lock: &impl Wait, row: &str) -> Result<(), Fail> {
     match word {
         "serve" => show_served(rt, lock, NEVER, rest, ROOM, &[], &[]),
         "broken" => show_served(rt, lock, BREAK, rest, ROOM, &[], &[]),
-        "relay" => show_relayed(rt, 1, rest),
-        "relay3" => show_relayed(rt, 3, rest),
         "ring" => show_shared(rt, lock, 1, rest),
         "ring3" => show_shared(rt, lock, 3, rest),
         _ => show_failing(rt, lock, word, rest),

@@ -1,7 +1,6 @@
 ghost use Rattle.std.specs.Prelude.{◌≡◌, ◌+◌, IfSome, OnOk};
 
 use crate::conns::{ROOM, new_conn, show_end};
-use crate::relays::{MOST_BYTES, MOST_WINDOWS};
 use crate::windows::window_at;
 use bus_io::MemoryConn;
 use bus_types::Untold;
@@ -11,6 +10,12 @@ use ring_cells::Entry;
 use std::alloc::Global;
 use std::sync::Wait;
 use std::test::Fail;
+
+/// The most bytes that a ring keeps.
+const MOST_BYTES: u64 = 1_048_576;
+
+/// The most windows that a ring keeps.
+const MOST_WINDOWS: u32 = 2;
 
 /// Prints what a connection that gives a text is answered by a pass of a shared ring to which the windows 10, 20, .. were
 /// published, so many, and how its serving ended.

@@ -1,4 +1,4 @@
--- What a buffer replies.
+-- What a relay replies that stays as it is.
 use Rattle.std.specs.Prelude.{◌≡◌, ℕ, List}
 use Rattle.bus_types.specs.Relay.{Relay, answer_of}
 use Rattle.partition_filter.specs.Selection.{test_of}
