@@ -1,5 +1,6 @@
 -- Entries, and the rows in them.
-use Rattle.std.proofs.Common.{◌≡◌, ℕ, ◌&&◌, Bool, true, false, cond, T, List, [], ◌∷◌, ◌++◌, Ordering, Less, Equal, Greater, Option, Some, None, option_and_then, is_some, is_eq, is_lt, true≢false, refl, sym, ap, ap₂, subst, ◌∙◌}
+use Rattle.std.proofs.Common.{◌≡◌, ℕ, ◌+◌, ◌<◌, arith, map, length, take, drop, set, get_or, ◌&&◌, Bool, true, false, cond, T, List, [], ◌∷◌, ◌++◌, Ordering, Less, Equal, Greater, Option, Some, None, option_and_then, is_some, is_eq, is_lt, true≢false, refl, sym, ap, ap₂, subst, ◌∙◌}
+use Rattle.std.proofs.lemmas.List.{take_more, take_more_set, take-set, drop_more, drop-set-lt, map-append}
 use Rattle.std.specs.Option.{IsSome}
 use Rattle.std.specs.Prelude.{Result, Ok, Err, IfOk, OnOk, OnErr, IsOk}
 use Rattle.std.specs.Ordering.{match_ordering}
@@ -21,7 +22,7 @@ use Rattle.bus_types.proofs.Names.{name_cmp_total, name_cmp_exact}
 use Rattle.bus_types.proofs.Entries.{holds, is_true, ordered-insert, lookup-insert}
 use Rattle.bus_types.proofs.TableLaws.{rows_after-ordered, payload_at-row_after, same_rows}
 use Rattle.bus_stores.specs.Keeper.{IsTable}
-use Rattle.bus_stores.specs.Entries.{EntryList, row_in, rows_in, undone, HasRoom, HaveRoom}
+use Rattle.bus_stores.specs.Entries.{EntryList, row_in, rows_in, entry_of, undone, HasRoom, HaveRoom}
 
 -- ---- the order of names, as their type has it
 
@@ -258,3 +259,23 @@ undone_left now new all before rest b is made e = ap (λ rows. undone rows rest)
 -- one change more is made, the first of those that are left
 pub made_first : (now new : RowList) (changes rest : List Change) (c : Change) (all : RowList) → changes ≡ c ∷ rest → new ≡ row_after now (name_of c) c.put → rows_after now changes ≡ all → rows_after new rest ≡ all
 made_first now new changes rest c all is made e = ap (λ rows. rows_after rows rest) made ∙ ap (rows_after now) (sym is) ∙ e
+
+-- ---- changes that have what their rows had before
+
+-- one change more has it
+pub back_more : (cs : List Change) (at : ℕ) (c : Change) → at < length cs → map entry_of (take (at + 1) (set cs at c)) ≡ map entry_of (take at cs) ++ (name_of c, c.put) ∷ []
+back_more cs at c lt = ap (map entry_of) (take_more_set cs at c lt) ∙ map-append entry_of (take at cs) (c ∷ [])
+
+-- the last one that has it
+pub back_last : (cs : List Change) (at : ℕ) (d : Change) → at < length cs → map entry_of (take (at + 1) cs) ≡ map entry_of (take at cs) ++ (name_of (get_or cs at d), (get_or cs at d).put) ∷ []
+back_last cs at d lt = ap (map entry_of) (take_more cs at d lt) ∙ map-append entry_of (take at cs) (get_or cs at d ∷ [])
+
+-- the changes from a place on, of which the first is made
+pub made_at : (now new all : RowList) (cs : List Change) (at : ℕ) (c d : Change) → at < length cs → new ≡ row_after now (name_of (get_or cs at d)) (get_or cs at d).put → rows_after now (drop at cs) ≡ all → rows_after new (drop (at + 1) (set cs at c)) ≡ all
+made_at now new all cs at c d lt made e =
+    let first : drop at cs ≡ get_or cs at d ∷ drop (at + 1) (set cs at c) = drop_more cs at d lt ∙ ap (λ rest. get_or cs at d ∷ rest) (sym (drop-set-lt (at + 1) cs at c (omega arith))) in
+    made_first now new (drop at cs) (drop (at + 1) (set cs at c)) (get_or cs at d) all first made e
+
+-- those before it are as they were
+pub back_same : (cs : List Change) (at : ℕ) (c : Change) → map entry_of (take at (set cs at c)) ≡ map entry_of (take at cs)
+back_same cs at c = ap (map entry_of) (take-set cs at c)

@@ -5,10 +5,11 @@ use Rattle.std.specs.Map.{lookup}
 use Rattle.std.specs.BTreeMap.{is_at}
 use Rattle.std.specs.declared.ops.Bound.{Bound}
 use Rattle.std.specs.declared.ops.Bound.TheVariants.{Unbounded, Excluded}
+use Rattle.bus_types.specs.declared.change.Change.{Change}
 use Rattle.bus_types.specs.declared.change.RowName.{RowName}
 use Rattle.bus_types.specs.declared.row.Cursor.{Cursor}
 use Rattle.bus_types.specs.declared.row.Cursor.TheVariants.{Start, After}
-use Rattle.bus_types.specs.Change.{name_cmp}
+use Rattle.bus_types.specs.Change.{name_cmp, name_of}
 use Rattle.bus_types.specs.Table.{RowList, row_after}
 
 -- names in order, each with its row's payload, or with room for one
@@ -24,6 +25,10 @@ row_in name (Some payload) = (name, payload) ∷ []
 abbrev pub rows_in : EntryList → RowList
 rows_in [] = []
 rows_in (e ∷ es) = row_in e.0 e.1 ++ rows_in es
+
+-- a change's name with its payload
+abbrev pub entry_of : Change → RowName × Option (List ℕ)
+entry_of c = (name_of c, c.put)
 
 -- there is an entry for a name
 abbrev pub HasRoom : EntryList → RowName → Type 0

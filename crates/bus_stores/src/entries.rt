@@ -1,10 +1,10 @@
-ghost use Rattle.std.specs.Prelude.{◌≡◌, ◌+◌, ◌<◌, ◌≤◌, ◌++◌, [], length, map, option_and_then, vec_capacity, IfOk, OnOk, OnErr};
+ghost use Rattle.std.specs.Prelude.{◌≡◌, ◌≤◌, ◌++◌, length, map, take, option_and_then, IfOk, OnOk, OnErr};
 ghost use Rattle.bus_types.specs.declared.change.RowName.{RowName};
 ghost use Rattle.bus_types.specs.Change.{name_of};
 ghost use Rattle.bus_types.specs.Rows.{pair_of, page_of};
 ghost use Rattle.bus_types.specs.Table.{row_after, rows_after, payload_at};
 ghost use Rattle.bus_stores.specs.Keeper.{IsTable};
-ghost use Rattle.bus_stores.specs.Entries.{row_in, rows_in, undone, HasRoom, HaveRoom, bound_of};
+ghost use Rattle.bus_stores.specs.Entries.{row_in, rows_in, entry_of, undone, HasRoom, HaveRoom, bound_of};
 
 use bus_types::{Change, Cursor, NoMemory, Payload, Row, RowName};
 use std::alloc::Global;
@@ -14,92 +14,81 @@ use std::ops::Bound;
 /// Names in order, each with its row's payload, or with room for one.
 pub(crate) type Entries = BTreeMap<RowName, Option<Payload>>;
 
-/// Names with what each one's row had, in the order in which they changed.
-type Before = Vec<(RowName, Option<Payload>)>;
-
 /// Makes the changes, in order, or none of them. It takes time in proportion to the changes, and a factor that is the
-/// logarithm of the number of entries: each change looks its name up once, and one that deletes twice. No payload is copied.
+/// logarithm of the number of entries: each change looks its name up once, and one that deletes twice. No payload is copied:
+/// each change that was made has what its row had before in place of its own.
 pub(crate) fn change(
     alloc: Global,
     entries: &mut Entries,
-    changes: Vec<Change>,
+    changes: &mut [Change],
 ) -> Result<(), NoMemory>
-    ensures ok { OnOk result (rows_in entries.new.entries ≡ rows_after (rows_in entries.old.entries) changes.items) }
+    ensures ok { OnOk result (rows_in entries.new.entries ≡ rows_after (rows_in entries.old.entries) changes.old) }
     ensures err { OnErr result (rows_in entries.new.entries ≡ rows_in entries.old.entries) }
 {
-    let mut before = Vec::with_capacity(alloc, changes.len())?;
-    let mut deleted = Vec::with_capacity(alloc, changes.len())?;
-    let mut added = Vec::with_capacity(alloc, changes.len())?;
-    match write(entries, changes, &mut before, &mut deleted, &mut added) {
-        Ok(()) => {
-            drop_room(entries, &deleted);
-            Ok(())
-        }
-        Err(fault) => {
-            undo(entries, before);
-            drop_room(entries, &added);
-            Err(fault)
-        }
+    let mut deleted = Vec::new(alloc);
+    let made = write(entries, changes, &mut deleted);
+    if made < changes.len() {
+        undo(entries, changes, made);
+        drop_room_of(entries, changes);
+        return Err(NoMemory);
     }
-}
-
-// Makes the changes, in order, and keeps what each row had before, the names that were deleted, and those that had no row.
-// After want of memory only the first of them are made.
-fn write(
-    entries: &mut Entries,
-    changes: Vec<Change>,
-    before: &mut Before,
-    deleted: &mut Vec<RowName>,
-    added: &mut Vec<RowName>,
-) -> Result<(), NoMemory>
-    requires none { before.old.items ≡ [] }
-    requires none_deleted { deleted.old.items ≡ [] }
-    requires none_added { added.old.items ≡ [] }
-    requires space { length changes.items ≤ vec_capacity before.old }
-    requires space_deleted { length changes.items ≤ vec_capacity deleted.old }
-    requires space_added { length changes.items ≤ vec_capacity added.old }
-    ensures ok { OnOk result (rows_in entries.new.entries ≡ rows_after (rows_in entries.old.entries) changes.items) }
-    ensures undone { undone (rows_in entries.new.entries) before.new.items ≡ rows_in entries.old.entries }
-    ensures room { HaveRoom entries.new.entries before.new.items }
-{
-    for change in changes {
-        let name = change.name();
-        let deletes = change.put.is_none();
-        let had = write_one(entries, name, change.put)?;
-        push_if(deletes, deleted, name);
-        push_if(had.is_none(), added, name);
-        before.push_reserved((name, had));
-    }
+    drop_room(entries, &deleted);
     Ok(())
 }
 
-// Appends a name, where it is to be appended.
-fn push_if(wanted: bool, names: &mut Vec<RowName>, name: RowName)
-    requires { length names.old.items < vec_capacity names.old }
-    ensures more { length names.new.items ≤ length names.old.items + 1 }
-    ensures space { vec_capacity names.new ≡ vec_capacity names.old }
+// Makes the changes, in order, and notes the names that were deleted, and answers how many were made, which are fewer only
+// after want of memory.
+fn write(entries: &mut Entries, changes: &mut [Change], deleted: &mut Vec<RowName>) -> usize
+    ensures made { result ≤ length changes.old }
+    ensures as_many { length changes.new ≡ length changes.old }
+    ensures all { result ≡ length changes.old → rows_in entries.new.entries ≡ rows_after (rows_in entries.old.entries) changes.old }
+    ensures undone { undone (rows_in entries.new.entries) (map entry_of (take result changes.new)) ≡ rows_in entries.old.entries }
+    ensures room { HaveRoom entries.new.entries (map entry_of (take result changes.new)) }
 {
-    if wanted {
-        names.push_reserved(name);
+    for at in 0..changes.len() {
+        let Ok(()) = write_one(entries, &mut changes[at], deleted) else {
+            return at;
+        };
     }
+    changes.len()
 }
 
-// Gives a row a payload or none, and answers what it had before. After want of memory the entries are as before.
+// Makes a change, which then has what its row had before, and notes its name where it deletes. After want of memory the entries
+// are as before.
 fn write_one(
     entries: &mut Entries,
-    name: RowName,
-    put: Option<Payload>,
-) -> Result<Option<Payload>, NoMemory>
-    ensures rows { OnOk result (rows_in entries.new.entries ≡ row_after (rows_in entries.old.entries) name put) }
-    ensures had { IfOk result (λ had. had ≡ payload_at (rows_in entries.old.entries) name) }
+    change: &mut Change,
+    deleted: &mut Vec<RowName>,
+) -> Result<(), NoMemory>
+    ensures name { OnOk result (name_of change.new ≡ name_of change.old) }
+    ensures rows { OnOk result (rows_in entries.new.entries ≡ row_after (rows_in entries.old.entries) (name_of change.old) change.old.put) }
+    ensures had { OnOk result (change.new.put ≡ payload_at (rows_in entries.old.entries) (name_of change.old)) }
     ensures err { OnErr result (entries.new.entries ≡ entries.old.entries) }
-    ensures room { OnOk result (HasRoom entries.new.entries name) }
-    ensures kept { (q : RowName) → HasRoom entries.old.entries q → HasRoom entries.new.entries q }
-    ensures ordered { IsTable (rows_in entries.old.entries) }
+    ensures room { OnOk result (HasRoom entries.new.entries (name_of change.old)) }
+    ensures kept { OnOk result ((q : RowName) → HasRoom entries.old.entries q → HasRoom entries.new.entries q) }
+    ensures ordered { OnOk result (IsTable (rows_in entries.old.entries)) }
+{
+    if change.put.is_none() {
+        deleted.push(change.name())?;
+    }
+    exchange(entries, change)
+}
+
+// Gives a change's row what the change puts, and the change what its row had before. After want of memory the entries are as
+// before.
+fn exchange(entries: &mut Entries, change: &mut Change) -> Result<(), NoMemory>
+    ensures name { OnOk result (name_of change.new ≡ name_of change.old) }
+    ensures rows { OnOk result (rows_in entries.new.entries ≡ row_after (rows_in entries.old.entries) (name_of change.old) change.old.put) }
+    ensures had { OnOk result (change.new.put ≡ payload_at (rows_in entries.old.entries) (name_of change.old)) }
+    ensures err { OnErr result (entries.new.entries ≡ entries.old.entries) }
+    ensures room { OnOk result (HasRoom entries.new.entries (name_of change.old)) }
+    ensures kept { OnOk result ((q : RowName) → HasRoom entries.old.entries q → HasRoom entries.new.entries q) }
+    ensures ordered { OnOk result (IsTable (rows_in entries.old.entries)) }
 {
     let _rising = entries.len();
-    let had = entries.insert(name, put)?;
-    Ok(flat(had))
+    let had = entries.insert(change.name(), change.put.take())?;
+    change.put = flat(had);
+    Ok(())
 }
 
 // The payload of an entry, where there is one with a payload.
@@ -112,12 +101,18 @@ fn flat(entry: Option<Option<Payload>>) -> Option<Payload>
     }
 }
 
-// Gives the rows back what they had, the last one first. It takes no memory.
-fn undo(entries: &mut Entries, mut before: Before)
-    requires { HaveRoom entries.old.entries before.items }
-    ensures { rows_in entries.new.entries ≡ undone (rows_in entries.old.entries) before.items }
+// Gives the rows of the first so many changes back what they had, the last one first. It takes no memory.
+fn undo(entries: &mut Entries, changes: &mut [Change], made: usize)
+    requires within { made ≤ length changes.old }
+    requires room { HaveRoom entries.old.entries (map entry_of (take made changes.old)) }
+    ensures { rows_in entries.new.entries ≡ undone (rows_in entries.old.entries) (map entry_of (take made changes.old)) }
 {
-    'back: while let Some((name, put)) = before.pop() {
+    let mut left = made;
+    'back: while left > 0 {
+        left -= 1;
+        let change = &mut changes[left];
+        let name = change.name();
+        let put = change.put.take();
         restore(entries, name, put);
     }
 }
@@ -138,6 +133,15 @@ fn drop_room(entries: &mut Entries, names: &[RowName])
 {
     for name in names {
         drop_room_for(entries, name);
+    }
+}
+
+// Drops the room of those of these changes' names that have no row.
+fn drop_room_of(entries: &mut Entries, changes: &[Change])
+    ensures { rows_in entries.new.entries ≡ rows_in entries.old.entries }
+{
+    for change in changes {
+        drop_room_for(entries, &change.name());
     }
 }
 

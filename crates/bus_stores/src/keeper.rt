@@ -61,17 +61,18 @@ pub trait Keeper {
     ) -> Result<(), StoreFault>
         ensures { Commits (move_of clear batch.now mark.now) (state self.old) (state self.new) result };
 
-    /// As [`Keeper::commit`], of changes that are given away, so that no payload need be copied.
-    fn commit_owned(
+    /// As [`Keeper::commit`], of changes whose payloads it may take, so that none need be copied. What is then left in the batch
+    /// is of no matter.
+    fn commit_taking(
         &mut self,
         alloc: Global,
         clear: bool,
-        batch: Vec<Change>,
+        batch: &mut [Change],
         mark: &MarkText,
     ) -> Result<(), StoreFault>
-        ensures { Commits (move_of clear batch.items mark.now) (state self.old) (state self.new) result }
+        ensures { Commits (move_of clear batch.old mark.now) (state self.old) (state self.new) result }
     {
-        self.commit(alloc, clear, &batch, mark)
+        self.commit(alloc, clear, batch, mark)
     }
 
     /// The first `max` rows after the cursor, or those there are, in order of source and key. `max` is at least 1.

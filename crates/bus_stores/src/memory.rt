@@ -140,10 +140,10 @@ impl MemoryKeeper {
         &mut self,
         alloc: Global,
         clear: bool,
-        batch: Vec<Change>,
+        batch: &mut [Change],
         mark: &MarkText,
     ) -> Result<(), NoMemory>
-        ensures ok { OnOk result (self.new ≡ stored (move_of clear batch.items mark.now) self.old) }
+        ensures ok { OnOk result (self.new ≡ stored (move_of clear batch.old mark.now) self.old) }
         ensures err { OnErr result (self.new ≡ self.old) }
     {
         let mark = MarkText::new(alloc, mark.bytes())?;
@@ -163,8 +163,8 @@ impl MemoryKeeper {
         ensures ok { OnOk result (self.new ≡ stored (move_of clear batch.now mark.now) self.old) }
         ensures err { OnErr result (self.new ≡ self.old) }
     {
-        let copies = copy_changes(alloc, batch)?;
-        self.store(alloc, clear, copies, mark)
+        let mut copies = copy_changes(alloc, batch)?;
+        self.store(alloc, clear, &mut copies, mark)
     }
 }
 
@@ -210,16 +210,16 @@ impl Keeper for MemoryKeeper {
     /// An armed stop goes before a listed one. After `Failed` the rows and the mark are those that it sets where the stop
     /// that it met is one after it counts, and else those before it; no stop is armed then.
     #[tactic(auto, using(crate::proofs::Storing::commit_steps))]
-    fn commit_owned(
+    fn commit_taking(
         &mut self,
         alloc: Global,
         clear: bool,
-        batch: Vec<Change>,
+        batch: &mut [Change],
         mark: &MarkText,
     ) -> Result<(), StoreFault>
-        ensures commit { Commits (move_of clear batch.items mark.now) (told_by self.old) (told_by self.new) result }
+        ensures commit { Commits (move_of clear batch.old mark.now) (told_by self.old) (told_by self.new) result }
         ensures exact { FailsAt (commit_stop self.old) result }
-        ensures exact_state { CommitLeaves (move_of clear batch.items mark.now) self.old self.new result }
+        ensures exact_state { CommitLeaves (move_of clear batch.old mark.now) self.old self.new result }
         ensures numbered { CountsCall self.old self.new }
     {
         match self.begin_commit() {

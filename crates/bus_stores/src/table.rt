@@ -38,9 +38,9 @@ impl Table {
         &mut self,
         alloc: Global,
         clear: bool,
-        changes: Vec<Change>,
+        changes: &mut [Change],
     ) -> Result<(), NoMemory>
-        ensures ok { OnOk result (self.new ≡ rows_after (if clear then [] else self.old) changes.items) }
+        ensures ok { OnOk result (self.new ≡ rows_after (if clear then [] else self.old) changes.old) }
         ensures err { OnErr result (self.new ≡ self.old) }
     {
         if clear {
@@ -50,8 +50,8 @@ impl Table {
     }
 
     // The rows that the changes make on an empty table take the place of these.
-    fn replace(&mut self, alloc: Global, changes: Vec<Change>) -> Result<(), NoMemory>
-        ensures ok { OnOk result (self.new ≡ rows_after [] changes.items) }
+    fn replace(&mut self, alloc: Global, changes: &mut [Change]) -> Result<(), NoMemory>
+        ensures ok { OnOk result (self.new ≡ rows_after [] changes.old) }
         ensures err { OnErr result (self.new ≡ self.old) }
     {
         let mut fresh = Entries::new(alloc);

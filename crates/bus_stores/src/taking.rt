@@ -16,21 +16,22 @@ pub struct Commit<'a> {
     pub mark: &'a MarkText,
 }
 
-/// Makes the commit, where there is one to make, and answers whether there was. Without one it asks the keeper
-/// nothing, and doesn't fail.
+/// Makes the commit, where there is one to make, and then gives its vector back, with changes that are of no matter. Without
+/// one it asks the keeper nothing, and doesn't fail.
 pub fn take<K: Keeper>(
     alloc: Global,
     keeper: &mut K,
     commit: Option<Commit>,
-) -> Result<bool, StoreFault>
+) -> Result<Option<Vec<Change>>, StoreFault>
     ensures takes { Takes (option_map commit_move commit.entry) (K.state keeper.old) (K.state keeper.new) result }
-    ensures committed { IfOk result (λ committed. committed ≡ is_some commit.entry) }
+    ensures committed { IfOk result (λ batch. is_some batch ≡ is_some commit.entry) }
     ensures fails { OnErr result (IsSome commit.entry) }
     ensures nothing { commit.entry ≡ None → K.state keeper.new ≡ K.state keeper.old }
 {
     let Some(commit) = commit else {
-        return Ok(false);
+        return Ok(None);
     };
-    keeper.commit_owned(alloc, commit.clear, commit.batch, commit.mark)?;
-    Ok(true)
+    let mut batch = commit.batch;
+    keeper.commit_taking(alloc, commit.clear, &mut batch, commit.mark)?;
+    Ok(Some(batch))
 }

@@ -1,5 +1,6 @@
 -- Where a run of windows ends.
-use Rattle.std.proofs.Common.{◌≡◌, ℕ, suc, ◌+◌, ◌-◌, ◌<◌, ◌≤◌, List, [], ◌∷◌, length, get_or, take, drop, Some, refl, sym, ap, subst, ◌∙◌, arith}
+use Rattle.std.proofs.lemmas.Bool.{cases_lt}
+use Rattle.std.proofs.Common.{◌≡◌, ℕ, inl, inr, suc, ◌+◌, ◌-◌, ◌<◌, ◌≤◌, List, [], ◌∷◌, length, get_or, take, drop, Some, refl, sym, ap, subst, ◌∙◌, arith}
 use Rattle.std.specs.Prelude.{slice_get}
 use Rattle.std.proofs.lemmas.List.{drop_more, drop_all}
 use Rattle.std.proofs.lemmas.Option.{get_or_from_slice_get}
@@ -8,7 +9,7 @@ use Rattle.bus_types.specs.Window.{Span, span_size, IsSpan}
 use Rattle.bus_types.specs.Timeline.{end_from}
 use Rattle.bus_types.specs.Cut.{cut, cuts, cut_size}
 use Rattle.bus_types.specs.Relay.{longest_run, most_windows}
-use Rattle.bus_types.proofs.Runs.{run_ends}
+use Rattle.bus_types.proofs.Runs.{run_ends, run_takes}
 use Rattle.bus_types.proofs.Stretches.{end_at}
 use Rattle.event_codec.proofs.Cuts.{cut_no_larger}
 use Rattle.plain_buffer.specs.Run.{Tells}
@@ -26,6 +27,29 @@ run_over test ws run from number scn size max w lt is large t =
 -- a run that was told with its bytes
 pub is_run : (test : Test) (ws : List Span) (from max count last size : ℕ) → Tells count last size [] (run_from test ws from max) → IsRun test ws from max count last
 is_run test ws from max count last size t = record { count = t.count; last = t.last; bytes = omega arith }
+
+-- the first window is too large where there is no run
+pub none_fits : (test : Test) (ws : List Span) (from max count last : ℕ) (w : Span) → from < length ws → w ≡ get_or ws from w → count ≡ 0 → IsRun test ws from max count last → max < cut_size test w
+none_fits test ws from max count last w lt is none run =
+    let first : drop from ws ≡ w ∷ drop (from + 1) ws = drop_more ws from w lt ∙ ap (λ (v : Span). v ∷ drop (from + 1) ws) (sym is) in
+    elim (cases_lt max (cut_size test w)) [
+      | inl large ↦ large
+      | inr fits ↦ (
+          let taken = ap length (ap (λ (left : List Span). longest_run most_windows max (cuts test left)) first ∙ run_takes most_windows max (cut test w) (cuts test (drop (from + 1) ws)) (omega arith) fits) in
+          let false : ⊥ = omega (arith, taken, run.count, none) in
+          absurd false)
+    ]
+
+-- it fits where there is one
+pub first_fits : (test : Test) (ws : List Span) (from max count last : ℕ) (w : Span) → from < length ws → w ≡ get_or ws from w → (count ≡ 0 → ⊥) → IsRun test ws from max count last → cut_size test w ≤ max
+first_fits test ws from max count last w lt is some run =
+    let first : drop from ws ≡ w ∷ drop (from + 1) ws = drop_more ws from w lt ∙ ap (λ (v : Span). v ∷ drop (from + 1) ws) (sym is) in
+    elim (cases_lt max (cut_size test w)) [
+      | inl large ↦ (
+          let none = ap length (ap (λ (left : List Span). longest_run most_windows max (cuts test left)) first ∙ run_ends most_windows max (cut test w) (cuts test (drop (from + 1) ws)) large) in
+          absurd (some (omega (arith, none, run.count))))
+      | inr fits ↦ fits
+    ]
 
 -- ---- windows that fit in full
 

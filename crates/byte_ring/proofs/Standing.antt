@@ -1,5 +1,5 @@
 -- Texts where they stand in bytes: events one after the other, and the mark behind them.
-use Rattle.std.proofs.Common.{◌≡◌, ℕ, zero, suc, if◌then◌else◌, ◌+◌, ◌-◌, ◌<◌, ◌≤◌, List, [], ◌∷◌, ◌++◌, append_assoc, length, length-append, length-drop, take, drop, Option, Some, None, refl, sym, ap, subst, ◌∙◌, arith}
+use Rattle.std.proofs.Common.{◌≡◌, ℕ, Bool, zero, suc, if◌then◌else◌, ◌+◌, ◌-◌, ◌<◌, ◌≤◌, List, [], ◌∷◌, ◌++◌, append_assoc, length, length-append, length-drop, take, drop, Option, Some, None, refl, sym, ap, subst, ◌∙◌, arith}
 use Rattle.std.specs.Int.{Width, w16, w32, w64, byte_len, from_be_bytes}
 use Rattle.std.proofs.lemmas.List.{take_at, drop_at, drop-drop}
 use Rattle.std.proofs.lemmas.Nat.{from_be_bytes-to_be_bytes_2, from_be_bytes-to_be_bytes_4, from_be_bytes-to_be_bytes_8}
@@ -17,9 +17,8 @@ use Rattle.event_codec.proofs.Writing.{accepted_more}
 use Rattle.plain_buffer.specs.Run.{accepted_size}
 use Rattle.plain_buffer.proofs.Runs.{accepted_more as sizes_more}
 use Rattle.plain_buffer.proofs.Sending.{accepted_short}
-use Rattle.byte_ring.specs.declared.event.Placed.{Placed}
 use Rattle.byte_ring.specs.declared.kept.Slot.{Slot}
-use Rattle.byte_ring.specs.Parts.{Stands, WindowAt, IsPlaced, between}
+use Rattle.byte_ring.specs.Parts.{Stands, WindowAt, between}
 use Rattle.byte_ring.proofs.Pushing.{window_number}
 
 -- ---- texts
@@ -91,22 +90,22 @@ pub number_in : (w : Width) (n at p : ℕ) (xs part : List ℕ) → p + byte_len
 unfolding number_at
 number_in w n at p xs part h is = ap (λ ys. from_be_bytes w (take (byte_len w) (drop p ys))) is ∙ ap (from_be_bytes w) (take_in (byte_len w) p n (drop at xs) h) ∙ sym (number_there w xs at p)
 
-pub number_whole : (at : ℕ) (xs part : List ℕ) → part ≡ take 8 (drop at xs) → number_at w64 0 part ≡ number_at w64 at xs
-number_whole at xs part is = number_in w64 8 at 0 xs part (omega arith) is ∙ ap (λ n. number_at w64 n xs) (omega arith)
+-- one that stands whole in a part
+pub number_whole : (w : Width) (at : ℕ) (xs part : List ℕ) → part ≡ take (byte_len w) (drop at xs) → number_at w 0 part ≡ number_at w at xs
+number_whole w at xs part is = number_in w (byte_len w) at 0 xs part (omega arith) is ∙ ap (λ n. number_at w n xs) (omega arith)
 
-pub head_whole : (at : ℕ) (xs head : List ℕ) → head ≡ take 23 (drop at xs) → (number_at w16 1 head ≡ number_at w16 (at + 1) xs) × (number_at w64 11 head ≡ number_at w64 (at + 11) xs) × (number_at w32 19 head ≡ number_at w32 (at + 19) xs)
-head_whole at xs head is = (number_in w16 23 at 1 xs head (omega arith) is, number_in w64 23 at 11 xs head (omega arith) is, number_in w32 23 at 19 xs head (omega arith) is)
+-- the size of an event that stands at a place, by the length that is read in its head
+pub size_read : (bytes : List ℕ) (at len : ℕ) (e : Event) (rest : List ℕ) → len ≡ number_at w32 (at + 19) bytes → drop at bytes ≡ event_bytes e ++ rest → IsEvent e → 23 + len ≡ length (event_bytes e)
+size_read bytes at len e rest l there is = ap (λ n. 23 + n) (l ∙ number_there w32 bytes at 19 ∙ ap (number_at w32 19) there) ∙ (fields_of e.scn e.change.source e.change.key e.change.put rest is).size
 
--- what is read of an event that stands at a place
-pub placed_of : (bytes : List ℕ) (at source key size : ℕ) (e : Event) (rest : List ℕ) → source ≡ number_at w16 (at + 1) bytes → key ≡ number_at w64 (at + 11) bytes → size ≡ number_at w32 (at + 19) bytes
-    → drop at bytes ≡ event_bytes e ++ rest → IsEvent e → IsPlaced (record { source = source; key = Long key; size = 23 + size }) e
-placed_of bytes at source key size e rest s k z there is =
+-- what a test says of it, by the source and the key that are read in its head
+pub test_read : (test : Test) (bytes : List ℕ) (at source key : ℕ) (e : Event) (rest : List ℕ) → source ≡ number_at w16 (at + 1) bytes → key ≡ number_at w64 (at + 11) bytes → drop at bytes ≡ event_bytes e ++ rest → IsEvent e
+    → test source (Long key) ≡ test e.change.source e.change.key
+test_read test bytes at source key e rest s k there is =
     let f = fields_of e.scn e.change.source e.change.key e.change.put rest is in
-    record {
-      source = s ∙ number_there w16 bytes at 1 ∙ ap (number_at w16 1) there ∙ f.source;
-      key = ap Long (k ∙ number_there w64 bytes at 11 ∙ ap (number_at w64 11) there) ∙ f.key;
-      size = ap (λ n. 23 + n) (z ∙ number_there w32 bytes at 19 ∙ ap (number_at w32 19) there) ∙ f.size;
-    }
+    let same_source = s ∙ number_there w16 bytes at 1 ∙ ap (number_at w16 1) there ∙ f.source in
+    let same_key = ap Long (k ∙ number_there w64 bytes at 11 ∙ ap (number_at w64 11) there) ∙ f.key in
+    λ i. test (same_source i) (same_key i)
 
 head_is : (k : Key) → head_size k ≡ 23
 head_is (Long k) = refl
@@ -158,33 +157,36 @@ next_event bytes at w i is lt s =
 pub events_there : (bytes : List ℕ) (at : ℕ) (s : Slot) → WindowAt bytes at s → Stands bytes at (changes_bytes s.window.value.scn s.window.value.changes)
 events_there bytes at s w = stands_first bytes at (changes_bytes s.window.value.scn s.window.value.changes) (mark_bytes s.window.value.scn s.window.value.prev) w.there
 
--- the size that a filter sees of it
-size_placed : (test : Test) (scn : ℕ) (c : Change) (p : Placed) → IsPlaced p (event scn c) → (if test p.source p.key then p.size else 0) ≡ accepted_size test c
-size_placed test scn c p is = λ i. if test (is.source i) (is.key i) then (is.size ∙ event_length (event scn c)) i else 0
+-- its size where it is accepted
+pub size_accepted : (test : Test) (scn : ℕ) (c : Change) (size : ℕ) (a : Bool) → size ≡ length (event_bytes (event scn c)) → a ≡ test c.source c.key → (if a then size else 0) ≡ accepted_size test c
+size_accepted test scn c size a is same = λ i. if same i then (is ∙ event_length (event scn c)) i else 0
 
--- a step of the sum of what it leaves
-pub size_next : (test : Test) (bytes : List ℕ) (at scn : ℕ) (cs : List Change) (i size more total : ℕ) (n : Next bytes at scn cs i) (p : Placed) → IsPlaced p (event scn n.c) → more ≡ (if test p.source p.key then p.size else 0)
-    → size + changes_size (accepted test (drop i cs)) ≡ total → (size + more) + changes_size (accepted test (drop (i + 1) cs)) ≡ total
-size_next test bytes at scn cs i size more total n p is m e =
+-- a step of the sum of what a filter leaves
+pub size_next : (test : Test) (bytes : List ℕ) (at scn : ℕ) (cs : List Change) (i sum more total : ℕ) (n : Next bytes at scn cs i) (size : ℕ) (a : Bool) → size ≡ length (event_bytes (event scn n.c)) → a ≡ test n.c.source n.c.key → more ≡ (if a then size else 0)
+    → sum + changes_size (accepted test (drop i cs)) ≡ total → (sum + more) + changes_size (accepted test (drop (i + 1) cs)) ≡ total
+size_next test bytes at scn cs i sum more total n size a is same m e =
     let first = ap (λ (rest : List Change). changes_size (accepted test rest)) n.left ∙ sizes_more test n.c (drop (i + 1) cs) in
-    omega (arith, e, first, m ∙ size_placed test scn n.c p is)
+    omega (arith, e, first, m ∙ size_accepted test scn n.c size a is same)
+
+-- its bytes where it is accepted
+bytes_accepted : (test : Test) (bytes : List ℕ) (at scn : ℕ) (cs : List Change) (i : ℕ) (n : Next bytes at scn cs i) (size : ℕ) (a : Bool) → size ≡ length (event_bytes (event scn n.c)) → a ≡ test n.c.source n.c.key
+    → (if a then between bytes at (at + size) else []) ≡ accepted_bytes test scn n.c
+bytes_accepted test bytes at scn cs i n size a is same =
+    let part = stands_part bytes at size (event_bytes (event scn n.c)) (sym is) n.there in
+    λ k. if same k then part k else []
 
 -- the bytes that a filter leaves of it, and of those behind it
-pub bytes_next : (test : Test) (bytes : List ℕ) (at scn : ℕ) (cs : List Change) (i : ℕ) (n : Next bytes at scn cs i) (p : Placed) → IsPlaced p (event scn n.c)
-    → changes_bytes scn (accepted test (drop i cs)) ≡ (if test p.source p.key then between bytes at (at + p.size) else []) ++ changes_bytes scn (accepted test (drop (i + 1) cs))
-bytes_next test bytes at scn cs i n p is =
-    let part = stands_part bytes at p.size (event_bytes (event scn n.c)) (sym is.size) n.there in
-    let same : (if test p.source p.key then between bytes at (at + p.size) else []) ≡ accepted_bytes test scn n.c = λ k. if test (is.source k) (is.key k) then part k else [] in
+pub bytes_next : (test : Test) (bytes : List ℕ) (at scn : ℕ) (cs : List Change) (i : ℕ) (n : Next bytes at scn cs i) (size : ℕ) (a : Bool) → size ≡ length (event_bytes (event scn n.c)) → a ≡ test n.c.source n.c.key
+    → changes_bytes scn (accepted test (drop i cs)) ≡ (if a then between bytes at (at + size) else []) ++ changes_bytes scn (accepted test (drop (i + 1) cs))
+bytes_next test bytes at scn cs i n size a is same =
     let rest = changes_bytes scn (accepted test (drop (i + 1) cs)) in
-    ap (λ (left : List Change). changes_bytes scn (accepted test left)) n.left ∙ accepted_more test scn n.c (drop (i + 1) cs) ∙ ap (λ (x : List ℕ). x ++ rest) (sym same)
+    ap (λ (left : List Change). changes_bytes scn (accepted test left)) n.left ∙ accepted_more test scn n.c (drop (i + 1) cs) ∙ ap (λ (x : List ℕ). x ++ rest) (sym (bytes_accepted test bytes at scn cs i n size a is same))
 
 -- no more bytes than the event has
-pub part_short : (test : Test) (bytes : List ℕ) (at scn : ℕ) (cs : List Change) (i : ℕ) (n : Next bytes at scn cs i) (p : Placed) → IsPlaced p (event scn n.c)
-    → length (if test p.source p.key then between bytes at (at + p.size) else []) + changes_size (drop (i + 1) cs) ≤ changes_size (drop i cs)
-part_short test bytes at scn cs i n p is =
-    let part = stands_part bytes at p.size (event_bytes (event scn n.c)) (sym is.size) n.there in
-    let same : (if test p.source p.key then between bytes at (at + p.size) else []) ≡ accepted_bytes test scn n.c = λ k. if test (is.source k) (is.key k) then part k else [] in
-    omega (arith, ap (λ (x : List ℕ). length x) same, accepted_short test scn n.c, ap changes_size n.left)
+pub part_short : (test : Test) (bytes : List ℕ) (at scn : ℕ) (cs : List Change) (i : ℕ) (n : Next bytes at scn cs i) (size : ℕ) (a : Bool) → size ≡ length (event_bytes (event scn n.c)) → a ≡ test n.c.source n.c.key
+    → length (if a then between bytes at (at + size) else []) + changes_size (drop (i + 1) cs) ≤ changes_size (drop i cs)
+part_short test bytes at scn cs i n size a is same =
+    omega (arith, ap (λ (x : List ℕ). length x) (bytes_accepted test bytes at scn cs i n size a is same), accepted_short test scn n.c, ap changes_size n.left)
 
 -- ---- the mark
 

@@ -2,9 +2,8 @@
 use Rattle.std.specs.Prelude.{◌≡◌, ℕ, ◌+◌, ◌-◌, ◌≤◌, List, ◌++◌, length, take, drop, Result, Ok, Err}
 use Rattle.bus_types.specs.Window.{span_size, IsSpan}
 use Rattle.bus_io.specs.declared.write.WriteFault.{WriteFault}
-use Rattle.event_codec.specs.Bytes.{Event, event_bytes, window_bytes}
+use Rattle.event_codec.specs.Bytes.{window_bytes}
 use Rattle.plain_buffer.specs.Send.{Told, Sends}
-use Rattle.byte_ring.specs.declared.event.Placed.{Placed}
 use Rattle.byte_ring.specs.declared.kept.Slot.{Slot}
 use Rattle.byte_ring.specs.declared.send.Pending.{Pending}
 
@@ -19,12 +18,6 @@ pub record WindowAt (bytes : List ℕ) (at : ℕ) (s : Slot) : Type 0 where
   pub count : s.count ≡ length s.window.value.changes
   pub there : Stands bytes at (window_bytes s.window.value)
   pub is : IsSpan s.window.value
-
--- what a filter sees of an event, and its bytes
-pub record IsPlaced (placed : Placed) (e : Event) : Type 0 where
-  pub source : placed.source ≡ e.change.source
-  pub key : placed.key ≡ e.change.key
-  pub size : placed.size ≡ length (event_bytes e)
 
 -- the bytes from one place to another
 abbrev pub between : List ℕ → ℕ → ℕ → List ℕ

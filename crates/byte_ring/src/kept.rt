@@ -8,6 +8,7 @@ ghost use Rattle.byte_ring.specs.Parts.{WindowAt};
 
 use crate::circle::Circle;
 use crate::event::scn_at;
+use crate::halves::Halves;
 use crate::index::{STRIDE, find, forget, note};
 use crate::write::push_window;
 use bus_types::{MAX_SCN, NoMemory, Window};
@@ -114,7 +115,7 @@ impl Kept {
             unreachable!();
         };
         let size = oldest.size as usize;
-        self.floor = self.circle.number(size - 16);
+        self.floor = self.circle.halves().long(size - 16);
         self.circle.drop_front(size);
         forget(&mut self.index, self.first);
         self.first += 1;
@@ -157,10 +158,11 @@ impl Kept {
     }
 
     /// The bytes of the windows, one after the other.
-    pub fn circle(&self) -> &Circle
-        ensures { result.now.bytes ≡ windows_bytes self.now.windows }
+    #[inline(always)]
+    pub fn bytes(&self) -> Halves<'_>
+        ensures { result ≡ windows_bytes self.now.windows }
     {
-        &self.circle
+        self.circle.halves()
     }
 
     /// The window at a place in their order: where it begins in the bytes, and its slot.
@@ -183,7 +185,7 @@ impl Kept {
         ensures range { result ≤ MAX_SCN }
     {
         let (at, slot) = self.window(i);
-        scn_at(&self.circle, at, slot)
+        scn_at(&self.circle.halves(), at, slot)
     }
 
     // Where the newest window stands that the index has and that follows an SCN at or below one, or else 0. The first window

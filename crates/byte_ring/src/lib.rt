@@ -7,6 +7,7 @@
 mod buffer;
 mod circle;
 mod event;
+mod halves;
 mod index;
 mod kept;
 mod ring;

@@ -166,11 +166,10 @@ fn serve_from<F: Accepts, W: Sink>(
     ensures cause { HasCause (W.faults out.old) (W.faults out.new) result }
 {
     let (at, slot) = kept.window(from);
-    let need = cut_size(kept.circle(), at, slot, filter);
-    if need > max {
-        return Ok(Served::TooSmall(need));
-    }
     let run = longest_run(kept, from, filter, max);
+    if run.count == 0 {
+        return Ok(Served::TooSmall(cut_size(&kept.bytes(), at, slot, filter)));
+    }
     let bytes = send_windows(kept, from, run.count, filter, out)?;
     Ok(Served::Windows {
         count: run.count,

@@ -6,8 +6,8 @@ ghost use Rattle.bus_types.specs.Timeline.{end_from};
 ghost use Rattle.byte_ring.specs.Parts.{WindowAt};
 ghost use Rattle.byte_ring.specs.Runs.{IsRun};
 
-use crate::circle::Circle;
-use crate::event::{Placed, event_at, scn_at};
+use crate::event::{accepts_event, event_size, scn_at};
+use crate::halves::Halves;
 use crate::kept::{Kept, Slot};
 use bus_types::{Accepts, MAX_SCN, MAX_WINDOW};
 use event_codec::MARK_SIZE;
@@ -22,30 +22,27 @@ pub(crate) struct Run {
     pub last: u64,
 }
 
-// The bytes of an event where a filter accepts it, and else 0.
-fn accepted_size<F: Accepts>(event: &Placed, filter: &F) -> u64
-    ensures { result ≡ (if F.test filter.now event.now.source event.now.key then event.now.size else 0) }
+// The bytes of an event where it is accepted, and else 0.
+fn accepted_size(size: usize, accepted: bool) -> u64
+    ensures { result ≡ (if accepted then size else 0) }
 {
-    if filter.accepts(event.source, &event.key) {
-        event.size as u64
-    } else {
-        0
-    }
+    if accepted { size as u64 } else { 0 }
 }
 
 /// The bytes of what a filter leaves of a slot's window, which stands at a place.
-pub(crate) fn cut_size<F: Accepts>(circle: &Circle, at: usize, slot: &Slot, filter: &F) -> u64
-    requires { WindowAt circle.now.bytes at slot.now }
+pub(crate) fn cut_size<F: Accepts>(bytes: &Halves<'_>, at: usize, slot: &Slot, filter: &F) -> u64
+    requires { WindowAt bytes.now at slot.now }
     ensures value { result ≡ cut_size (F.test filter.now) slot.now.window.value }
     ensures small { result ≤ MAX_WINDOW }
 {
-    let _within = circle.len();
+    let _within = bytes.len();
     let mut size = MARK_SIZE as u64;
     let mut place = at;
     for _i in 0..slot.count {
-        let event = event_at(circle, place);
-        size += accepted_size(&event, filter);
-        place += event.size;
+        let event = event_size(bytes, place);
+        let accepted = accepts_event(bytes, place, filter);
+        size += accepted_size(event, accepted);
+        place += event;
     }
     size
 }
@@ -104,12 +101,12 @@ fn run_of_cuts<F: Accepts>(kept: &Kept, from: usize, filter: &F, max: u64) -> Ru
             return Run { count, last };
         }
         let (at, slot) = kept.window(place);
-        let size = cut_size(kept.circle(), at, slot, filter);
+        let size = cut_size(&kept.bytes(), at, slot, filter);
         if size > max - bytes {
             return Run { count, last };
         }
         bytes += size;
-        last = scn_at(kept.circle(), at, slot);
+        last = scn_at(&kept.bytes(), at, slot);
     }
     Run {
         count: MOST_WINDOWS,

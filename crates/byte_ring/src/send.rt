@@ -9,8 +9,8 @@ ghost use Rattle.event_codec.specs.Streams.{windows_bytes};
 ghost use Rattle.plain_buffer.specs.Send.{told, Sends};
 ghost use Rattle.byte_ring.specs.Parts.{between, passed, Awaiting, WindowAt, Moves};
 
-use crate::circle::Circle;
-use crate::event::{Placed, event_at};
+use crate::event::{accepts_event, event_size};
+use crate::halves::Halves;
 use crate::kept::{Kept, Slot};
 use bus_io::{Sink, WriteFault, write_all};
 use bus_types::Accepts;
@@ -25,15 +25,15 @@ pub(crate) struct Pending {
 }
 
 // Sends bytes behind `done` bytes of a reply, and answers how many bytes of it went out by then. A fault tells the same.
-fn send_bytes<W: Sink>(bytes: &[u8], done: u64, out: &mut W) -> Result<u64, WriteFault>
-    requires { done + length bytes.now < 2 ^ 64 }
-    ensures sends { Sends (told (W.written out.old) (W.room out.old)) (told (W.written out.new) (W.room out.new)) done result bytes.now }
+fn send_bytes<W: Sink>(part: &[u8], done: u64, out: &mut W) -> Result<u64, WriteFault>
+    requires { done + length part.now < 2 ^ 64 }
+    ensures sends { Sends (told (W.written out.old) (W.room out.old)) (told (W.written out.new) (W.room out.new)) done result part.now }
     ensures risen { OnErr result (W.faults out.old < W.faults out.new) }
     ensures beside { W.beside out.new ≡ W.beside out.old }
     ensures cause { HasCause (W.faults out.old) (W.faults out.new) result }
 {
-    match write_all(out, bytes) {
-        Ok(()) => Ok(done + bytes.len() as u64),
+    match write_all(out, part) {
+        Ok(()) => Ok(done + part.len() as u64),
         Err(fault) => Err(WriteFault {
             written: done + fault.written,
         }),
@@ -41,16 +41,20 @@ fn send_bytes<W: Sink>(bytes: &[u8], done: u64, out: &mut W) -> Result<u64, Writ
 }
 
 // Sends what awaits sending, in at most two parts.
-fn send_pending<W: Sink>(circle: &Circle, pending: Pending, out: &mut W) -> Result<u64, WriteFault>
-    requires awaiting { Awaiting circle.now.bytes pending }
+fn send_pending<W: Sink>(
+    bytes: &Halves<'_>,
+    pending: Pending,
+    out: &mut W,
+) -> Result<u64, WriteFault>
+    requires awaiting { Awaiting bytes.now pending }
     requires few { passed pending < 2 ^ 64 }
     ensures sends { Sends (told (W.written out.old) (W.room out.old)) (told (W.written out.new) (W.room out.new)) pending.done result
-        (between circle.now.bytes pending.from pending.to) }
+        (between bytes.now pending.from pending.to) }
     ensures risen { OnErr result (W.faults out.old < W.faults out.new) }
     ensures beside { W.beside out.new ≡ W.beside out.old }
     ensures cause { HasCause (W.faults out.old) (W.faults out.new) result }
 {
-    let (front, back) = circle.part(pending.from, pending.to - pending.from);
+    let (front, back) = bytes.part(pending.from, pending.to - pending.from);
     let done = send_bytes(front, pending.done, out)?;
     if back.is_empty() {
         return Ok(done);
@@ -60,22 +64,22 @@ fn send_pending<W: Sink>(circle: &Circle, pending: Pending, out: &mut W) -> Resu
 
 // Adds bytes to those that await sending. Where they don't stand behind those, those are sent first.
 fn pass<W: Sink>(
-    circle: &Circle,
+    bytes: &Halves<'_>,
     pending: Pending,
     at: usize,
     size: usize,
     out: &mut W,
 ) -> Result<Pending, WriteFault>
-    requires awaiting { Awaiting circle.now.bytes pending }
+    requires awaiting { Awaiting bytes.now pending }
     requires few { passed pending < 2 ^ 64 }
-    requires within { at + size ≤ length circle.now.bytes }
-    ensures moves { Moves circle.now.bytes (told (W.written out.old) (W.room out.old)) (told (W.written out.new) (W.room out.new))
-        pending result (between circle.now.bytes at (at + size)) }
+    requires within { at + size ≤ length bytes.now }
+    ensures moves { Moves bytes.now (told (W.written out.old) (W.room out.old)) (told (W.written out.new) (W.room out.new))
+        pending result (between bytes.now at (at + size)) }
     ensures risen { OnErr result (W.faults out.old < W.faults out.new) }
     ensures beside { W.beside out.new ≡ W.beside out.old }
     ensures cause { HasCause (W.faults out.old) (W.faults out.new) result }
 {
-    let _within = circle.len();
+    let _within = bytes.len();
     let to = at + size;
     if pending.to == at {
         return Ok(Pending {
@@ -84,30 +88,30 @@ fn pass<W: Sink>(
             to,
         });
     }
-    let done = send_pending(circle, pending, out)?;
+    let done = send_pending(bytes, pending, out)?;
     Ok(Pending { done, from: at, to })
 }
 
-// Adds the bytes of an event, where a filter accepts it.
-fn pass_event<F: Accepts, W: Sink>(
-    circle: &Circle,
+// Adds the bytes of an event, where it is accepted.
+fn pass_event<W: Sink>(
+    bytes: &Halves<'_>,
     pending: Pending,
     at: usize,
-    event: &Placed,
-    filter: &F,
+    size: usize,
+    accepted: bool,
     out: &mut W,
 ) -> Result<Pending, WriteFault>
-    requires awaiting { Awaiting circle.now.bytes pending }
+    requires awaiting { Awaiting bytes.now pending }
     requires few { passed pending < 2 ^ 64 }
-    requires within { at + event.now.size ≤ length circle.now.bytes }
-    ensures moves { Moves circle.now.bytes (told (W.written out.old) (W.room out.old)) (told (W.written out.new) (W.room out.new))
-        pending result (if F.test filter.now event.now.source event.now.key then between circle.now.bytes at (at + event.now.size) else []) }
+    requires within { at + size ≤ length bytes.now }
+    ensures moves { Moves bytes.now (told (W.written out.old) (W.room out.old)) (told (W.written out.new) (W.room out.new))
+        pending result (if accepted then between bytes.now at (at + size) else []) }
     ensures risen { OnErr result (W.faults out.old < W.faults out.new) }
     ensures beside { W.beside out.new ≡ W.beside out.old }
     ensures cause { HasCause (W.faults out.old) (W.faults out.new) result }
 {
-    if filter.accepts(event.source, &event.key) {
-        pass(circle, pending, at, event.size, out)
+    if accepted {
+        pass(bytes, pending, at, size, out)
     } else {
         Ok(pending)
     }
@@ -115,75 +119,76 @@ fn pass_event<F: Accepts, W: Sink>(
 
 // Adds the events that a filter accepts of a slot's window, which stands at a place.
 fn pass_events<F: Accepts, W: Sink>(
-    circle: &Circle,
+    bytes: &Halves<'_>,
     pending: Pending,
     at: usize,
     slot: &Slot,
     filter: &F,
     out: &mut W,
 ) -> Result<Pending, WriteFault>
-    requires awaiting { Awaiting circle.now.bytes pending }
+    requires awaiting { Awaiting bytes.now pending }
     requires few { passed pending + span_size slot.now.window.value < 2 ^ 64 }
-    requires there { WindowAt circle.now.bytes at slot.now }
-    ensures moves { Moves circle.now.bytes (told (W.written out.old) (W.room out.old)) (told (W.written out.new) (W.room out.new))
+    requires there { WindowAt bytes.now at slot.now }
+    ensures moves { Moves bytes.now (told (W.written out.old) (W.room out.old)) (told (W.written out.new) (W.room out.new))
         pending result (changes_bytes slot.now.window.value.scn (accepted (F.test filter.now) slot.now.window.value.changes)) }
     ensures risen { OnErr result (W.faults out.old < W.faults out.new) }
     ensures beside { W.beside out.new ≡ W.beside out.old }
     ensures cause { HasCause (W.faults out.old) (W.faults out.new) result }
 {
-    let _within = circle.len();
+    let _within = bytes.len();
     let mut pending = pending;
     let mut place = at;
     for _i in 0..slot.count {
-        let event = event_at(circle, place);
-        pending = pass_event(circle, pending, place, &event, filter, out)?;
-        place += event.size;
+        let size = event_size(bytes, place);
+        let accepted = accepts_event(bytes, place, filter);
+        pending = pass_event(bytes, pending, place, size, accepted, out)?;
+        place += size;
     }
     Ok(pending)
 }
 
 // Adds the mark of a slot's window, which stands at a place.
 fn pass_mark<W: Sink>(
-    circle: &Circle,
+    bytes: &Halves<'_>,
     pending: Pending,
     at: usize,
     slot: &Slot,
     out: &mut W,
 ) -> Result<Pending, WriteFault>
-    requires awaiting { Awaiting circle.now.bytes pending }
+    requires awaiting { Awaiting bytes.now pending }
     requires few { passed pending < 2 ^ 64 }
-    requires there { WindowAt circle.now.bytes at slot.now }
-    ensures moves { Moves circle.now.bytes (told (W.written out.old) (W.room out.old)) (told (W.written out.new) (W.room out.new))
+    requires there { WindowAt bytes.now at slot.now }
+    ensures moves { Moves bytes.now (told (W.written out.old) (W.room out.old)) (told (W.written out.new) (W.room out.new))
         pending result (mark_bytes slot.now.window.value.scn slot.now.window.value.prev) }
     ensures risen { OnErr result (W.faults out.old < W.faults out.new) }
     ensures beside { W.beside out.new ≡ W.beside out.old }
     ensures cause { HasCause (W.faults out.old) (W.faults out.new) result }
 {
-    let _within = circle.len();
+    let _within = bytes.len();
     let mark = at + slot.size as usize - MARK_SIZE;
-    pass(circle, pending, mark, MARK_SIZE, out)
+    pass(bytes, pending, mark, MARK_SIZE, out)
 }
 
 // Adds the events that a filter accepts of a slot's window, which stands at a place, and the mark.
 fn pass_items<F: Accepts, W: Sink>(
-    circle: &Circle,
+    bytes: &Halves<'_>,
     pending: Pending,
     at: usize,
     slot: &Slot,
     filter: &F,
     out: &mut W,
 ) -> Result<Pending, WriteFault>
-    requires awaiting { Awaiting circle.now.bytes pending }
+    requires awaiting { Awaiting bytes.now pending }
     requires few { passed pending + span_size slot.now.window.value < 2 ^ 64 }
-    requires there { WindowAt circle.now.bytes at slot.now }
-    ensures moves { Moves circle.now.bytes (told (W.written out.old) (W.room out.old)) (told (W.written out.new) (W.room out.new))
+    requires there { WindowAt bytes.now at slot.now }
+    ensures moves { Moves bytes.now (told (W.written out.old) (W.room out.old)) (told (W.written out.new) (W.room out.new))
         pending result (window_bytes (cut (F.test filter.now) slot.now.window.value)) }
     ensures risen { OnErr result (W.faults out.old < W.faults out.new) }
     ensures beside { W.beside out.new ≡ W.beside out.old }
     ensures cause { HasCause (W.faults out.old) (W.faults out.new) result }
 {
-    let pending = pass_events(circle, pending, at, slot, filter, out)?;
-    pass_mark(circle, pending, at, slot, out)
+    let pending = pass_events(bytes, pending, at, slot, filter, out)?;
+    pass_mark(bytes, pending, at, slot, out)
 }
 
 /// Sends what a filter leaves of so many windows from a place in their order on, at most 32, in parts that are as long as
@@ -204,7 +209,7 @@ pub(crate) fn send_windows<F: Accepts, W: Sink>(
     ensures cause { HasCause (W.faults out.old) (W.faults out.new) result }
 {
     let _within = kept.len();
-    let circle = kept.circle();
+    let bytes = kept.bytes();
     let mut pending = Pending {
         done: 0,
         from: 0,
@@ -212,7 +217,7 @@ pub(crate) fn send_windows<F: Accepts, W: Sink>(
     };
     for i in 0..count {
         let (at, slot) = kept.window(from + i as usize);
-        pending = pass_items(circle, pending, at, slot, filter, out)?;
+        pending = pass_items(&bytes, pending, at, slot, filter, out)?;
     }
-    send_pending(circle, pending, out)
+    send_pending(&bytes, pending, out)
 }

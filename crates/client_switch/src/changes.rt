@@ -64,29 +64,39 @@ fn likely_changes(windows: u32, bytes: usize) -> usize {
     bytes.saturating_sub((windows as usize).saturating_mul(MARK_SIZE)) / USUAL_CHANGE
 }
 
-// Room for the changes of a reply of that shape and of so many bytes: no more than a reply of few changes needs.
-fn room_for(alloc: Global, shape: &Shape, bytes: usize) -> Result<Vec<Change>, NoMemory>
-    ensures { IfOk result (λ room. room.items ≡ []) }
-{
-    let count = match *shape {
+// About as many changes as a reply of that shape and of so many bytes has.
+fn likely_count(shape: &Shape, bytes: usize) -> usize {
+    match *shape {
         Shape::Windows { count, .. } => likely_changes(count, bytes),
         Shape::Rows { count, .. } => count as usize,
         Shape::Changes { count, .. } => count as usize,
         Shape::Only(_) => 0,
-    };
-    Ok(Vec::with_capacity(alloc, count)?)
+    }
 }
 
-/// The changes of a reply of that shape, in order. Each payload is copied once.
+// This vector, emptied, with room for the changes of a reply of that shape and of so many bytes: no more than a reply of
+// few changes needs, or than there was.
+fn room_for(shape: &Shape, bytes: usize, room: Vec<Change>) -> Result<Vec<Change>, NoMemory>
+    ensures { IfOk result (λ room. room.items ≡ []) }
+{
+    let mut room = room;
+    room.clear();
+    room.reserve(likely_count(shape, bytes))?;
+    Ok(room)
+}
+
+/// The changes of a reply of that shape, in order, in a vector with the room of the one given, whose changes are of no
+/// matter. Each payload is copied once.
 pub(crate) fn reply_changes(
     alloc: Global,
     shape: &Shape,
     bytes: &[u8],
+    room: Vec<Change>,
 ) -> Result<Vec<Change>, NoMemory>
     requires { (r : Reply) × Spells shape.now bytes.now r }
     ensures { IfOk result (λ changes. (r : Reply) → Spells shape.now bytes.now r → changes.items ≡ items_of r) }
 {
-    let room = room_for(alloc, shape, bytes.len())?;
+    let room = room_for(shape, bytes.len(), room)?;
     match ReplyView::of(shape, bytes) {
         ReplyView::Windows(windows) => windows_changes(alloc, &windows, room),
         ReplyView::Rows { run, .. } => run_changes(alloc, &run, room),

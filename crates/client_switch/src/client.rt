@@ -17,7 +17,7 @@ use crate::fault::{AskRefusal, ClientOpen, TakeFault};
 use crate::turn::turn_of;
 use crate::wish::Wish;
 use bus_stores::{Keeper, StoreFault};
-use bus_types::{MarkText, NoMemory};
+use bus_types::{Change, MarkText, NoMemory};
 use bus_wire::{Ask, check_reply};
 use checkpoint::{Mark, MarkFault};
 use dispatcher::{Consumer, dispatch};
@@ -43,6 +43,9 @@ pub struct Client {
     mark: Mark,
     wish: Wish,
     halted: bool,
+    // A vector without changes, whose room the changes of the next reply take: it goes into the turn of a reply and comes
+    // back from its commit.
+    room: Vec<Change>,
 }
 
 impl Model for Client {
@@ -119,6 +122,7 @@ impl Client {
             mark,
             wish: Wish::Nothing,
             halted: false,
+            room: Vec::new(alloc),
         })
     }
 
@@ -283,11 +287,11 @@ impl Client {
         ensures counts { CountsKept (K.state keeper.old) (K.state keeper.new) }
         ensures later { C.refusals consumer.old ≤ C.refusals consumer.new }
     {
-        let Ok(turn) = turn_of(alloc, &self.mark, shape, reply) else {
+        let Ok(turn) = turn_of(alloc, &self.mark, shape, reply, &mut self.room) else {
             return Err(self.go_back(consumer));
         };
         let (mark, wish) = (turn.mark, turn.wish);
-        match turn.commit(alloc, keeper) {
+        match turn.commit(alloc, keeper, &mut self.room) {
             Ok(text) => Ok(self.follow(mark, wish, &text, shape, consumer)),
             Err(StoreFault::Failed) => Err(self.halt()),
             Err(StoreFault::NoMemory) => Err(self.go_back(consumer)),

@@ -14,6 +14,7 @@ use bus_types::{Change, Cursor, MarkText, NoMemory};
 use checkpoint::Mark;
 use event_codec::{Answer, Shape};
 use std::alloc::Global;
+use std::mem;
 
 /// What a reply makes of a client: its mark, whether that and the rest are committed, whether all rows are cleared
 /// first, the changes that are then made in order, and the wish.
@@ -225,12 +226,14 @@ fn mark_after(mark: &Mark, shape: &Shape, changes: &[Change]) -> Mark
     }
 }
 
-/// What a lawful reply of this shape makes of a client with this mark. It takes memory for the changes alone.
+/// What a lawful reply of this shape makes of a client with this mark. It takes memory for the changes alone, and for
+/// them the room of the vector given, which is without room afterwards. An answer, which has no changes, leaves it.
 pub(crate) fn turn_of(
     alloc: Global,
     mark: &Mark,
     shape: &Shape,
     reply: &[u8],
+    room: &mut Vec<Change>,
 ) -> Result<Turn, NoMemory>
     requires mark { IsMark mark.now }
     requires can_come { HoldsComing mark.now shape.now reply.now }
@@ -240,17 +243,35 @@ pub(crate) fn turn_of(
     if let Shape::Only(answer) = shape {
         return Ok(answer_turn(alloc, mark, answer));
     }
-    let changes = reply_changes(alloc, shape, reply)?;
+    let room = mem::replace(room, Vec::new(alloc));
+    let changes = reply_changes(alloc, shape, reply, room)?;
     let next = mark_after(mark, shape, &changes);
     Ok(go(next, false, changes))
 }
 
+// The most changes for which room is kept, so that who once took a large reply doesn't hold its memory from then on.
+const MOST_KEPT: usize = 4096;
+
+// Keeps the vector of a commit, without its changes, where it has more room than the one at hand, and not too much.
+fn keep_room(room: &mut Vec<Change>, batch: Option<Vec<Change>>) {
+    let Some(mut batch) = batch else {
+        return;
+    };
+    let space = batch.capacity();
+    if space > room.capacity() && space <= MOST_KEPT {
+        batch.clear();
+        *room = batch;
+    }
+}
+
 impl Turn {
-    /// Makes its one commit, where it has one, and answers the text of the mark that was set.
+    /// Makes its one commit, where it has one, and answers the text of the mark that was set. The room of its changes is
+    /// then kept for those of a later turn.
     pub fn commit<K: Keeper>(
         self,
         alloc: Global,
         keeper: &mut K,
+        room: &mut Vec<Change>,
     ) -> Result<Option<MarkText>, StoreFault>
         requires { IsMark self.mark }
         ensures takes { Takes (commit_of (turn_in self)) (K.state keeper.old) (K.state keeper.new) result }
@@ -265,7 +286,8 @@ impl Turn {
             batch: self.batch,
             mark: &mark,
         };
-        take(alloc, keeper, Some(commit))?;
+        let batch = take(alloc, keeper, Some(commit))?;
+        keep_room(room, batch);
         Ok(Some(mark))
     }
 }

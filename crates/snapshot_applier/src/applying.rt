@@ -108,8 +108,8 @@ fn commit<K: Keeper>(
         (K.state keeper.new) result }
 {
     let text = boot_text(alloc, mark)?;
-    let batch = changes_of(alloc, windows)?;
-    keeper.commit(alloc, false, &batch, &text)
+    let mut batch = changes_of(alloc, windows)?;
+    keeper.commit_taking(alloc, false, &mut batch, &text)
 }
 
 // The changes of windows, in order. No payload is copied.

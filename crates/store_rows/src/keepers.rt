@@ -66,11 +66,17 @@ fn take_commit(alloc: Global, keeper: &mut Store, row: &str) -> Result<String, F
         batch,
         mark: &mark,
     };
-    said(alloc, &take(alloc, keeper, Some(commit)))
+    said(
+        alloc,
+        &take(alloc, keeper, Some(commit)).map(|batch| batch.is_some()),
+    )
 }
 
 fn take_nothing(alloc: Global, keeper: &mut Store) -> Result<String, Fail> {
-    said(alloc, &take(alloc, keeper, None))
+    said(
+        alloc,
+        &take(alloc, keeper, None).map(|batch| batch.is_some()),
+    )
 }
 
 // Commits puts of the keys 0, 1, ..

@@ -1,12 +1,13 @@
-use Rattle.std.proofs.Common.{◌≡◌, length}
-use Rattle.bus_stores.specs.Entries.{rows_in, undone, HaveRoom}
+use Rattle.std.proofs.Common.{◌≡◌, ◌≤◌, length, map, take}
+use Rattle.bus_stores.specs.Entries.{rows_in, entry_of, undone, HaveRoom}
 use Rattle.bus_stores.proofs.entries.undo.Given as goal
 
 abbrev pub invariant-back : goal.invariant-back
 invariant-back l = record {
-  rows : undone (rows_in l.entries.entries) l.before.items ≡ undone (rows_in l.fn.entries.entries) l.fn.before.items;
-  room : HaveRoom l.entries.entries l.before.items;
+  within : l.left ≤ length l.changes;
+  rows : undone (rows_in l.entries.entries) (map entry_of (take l.left l.changes)) ≡ undone (rows_in l.fn.entries.entries) (map entry_of (take l.fn.made l.fn.changes));
+  room : HaveRoom l.entries.entries (map entry_of (take l.left l.changes));
 }
 
 abbrev pub decreases-back : goal.decreases-back
-decreases-back l = length l.before.items
+decreases-back l = l.left

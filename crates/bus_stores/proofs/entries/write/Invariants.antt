@@ -1,15 +1,12 @@
-use Rattle.std.proofs.Common.{◌≡◌, ◌+◌, ◌≤◌, length, vec_capacity}
-use Rattle.std.specs.Vec.Iter.{into_iter_items}
+use Rattle.std.proofs.Common.{◌≡◌, length, map, take, drop}
 use Rattle.bus_types.specs.Table.{rows_after}
-use Rattle.bus_stores.specs.Entries.{rows_in, undone, HaveRoom}
+use Rattle.bus_stores.specs.Entries.{rows_in, entry_of, undone, HaveRoom}
 use Rattle.bus_stores.proofs.entries.write.Given as goal
 
-abbrev pub invariant-loop-change : goal.invariant-loop-change
-invariant-loop-change l = record {
-  rows : rows_after (rows_in l.entries.entries) (into_iter_items l.change-iterator) ≡ rows_after (rows_in l.fn.entries.entries) l.fn.changes.items;
-  undone : undone (rows_in l.entries.entries) l.before.items ≡ rows_in l.fn.entries.entries;
-  room : HaveRoom l.entries.entries l.before.items;
-  count : length l.before.items + length (into_iter_items l.change-iterator) ≤ vec_capacity l.before;
-  deleted : length l.deleted.items + length (into_iter_items l.change-iterator) ≤ vec_capacity l.deleted;
-  added : length l.added.items + length (into_iter_items l.change-iterator) ≤ vec_capacity l.added;
+abbrev pub invariant-loop-at : goal.invariant-loop-at
+invariant-loop-at l = record {
+  as_many : length l.changes ≡ length l.fn.changes;
+  rows : rows_after (rows_in l.entries.entries) (drop l.at l.changes) ≡ rows_after (rows_in l.fn.entries.entries) l.fn.changes;
+  undone : undone (rows_in l.entries.entries) (map entry_of (take l.at l.changes)) ≡ rows_in l.fn.entries.entries;
+  room : HaveRoom l.entries.entries (map entry_of (take l.at l.changes));
 }

@@ -12,6 +12,7 @@ use Rattle.plain_buffer.specs.Send.{told}
 use Rattle.plain_buffer.proofs.Serving.{served_small, served_run, run_bytes, sent_part}
 use Rattle.byte_ring.specs.Runs.{run_from}
 use Rattle.byte_ring.proofs.Pushing.{bytes_long}
+use Rattle.byte_ring.proofs.Running.{none_fits, first_fits}
 use Rattle.byte_ring.proofs.ring.serve_from.Goals as goal
 
 pub send_windows-requires : goal.send_windows-requires
@@ -21,8 +22,7 @@ send_windows-requires g c =
     let size = total_size (run_from test c.args.kept.now.windows c.args.from c.args.max) in
     let w = c.window-at.result.1.now.window.value in
     let is = sym (get_or_from_slice_get c.args.kept.now.windows c.args.from w w c.window-at.ensures.window) in
-    let need = c.cut_size-need.ensures.value in
-    let fits : cut_size test w ≤ c.args.max = omega arith in
+    let fits = first_fits test c.args.kept.now.windows c.args.from c.args.max run.count run.last w c.requires is (λ none. omega (arith, c.if-run-eq0.false, none)) c.longest_run-run.ensures.run in
     record {
       within = (served_run test c.args.kept.now.windows c.args.from c.args.max run.count run.last size w c.requires is fits c.longest_run-run.ensures.run).within;
       few = c.longest_run-run.ensures.few;
@@ -36,8 +36,7 @@ returns-in_err-bytes-clause-part g c =
     let size = total_size (run_from test c.args.kept.now.windows c.args.from c.args.max) in
     let w = c.window-at.result.1.now.window.value in
     let is = sym (get_or_from_slice_get c.args.kept.now.windows c.args.from w w c.window-at.ensures.window) in
-    let need = c.cut_size-need.ensures.value in
-    let fits : cut_size test w ≤ c.args.max = omega arith in
+    let fits = first_fits test c.args.kept.now.windows c.args.from c.args.max run.count run.last w c.requires is (λ none. omega (arith, c.if-run-eq0.false, none)) c.longest_run-run.ensures.run in
     let served = served_run test c.args.kept.now.windows c.args.from c.args.max run.count run.last size w c.requires is fits c.longest_run-run.ensures.run in
     let bytes = run_bytes test c.args.kept.now.windows c.args.from c.args.max run.count run.last size served in
     rw (p.1, p.2) (sent_part (told (g.W.Sink.written c.args.out.now) (g.W.Sink.room c.args.out.now)) (told (g.W.Sink.written c.send_windows.new.out) (g.W.Sink.room c.send_windows.new.out)) c.in_err-bytes.field-0.0 _ _ bytes c.in_err-bytes.ensures.sends).part
@@ -50,8 +49,7 @@ returns-in_err-bytes-clause-short g c =
     let size = total_size (run_from test c.args.kept.now.windows c.args.from c.args.max) in
     let w = c.window-at.result.1.now.window.value in
     let is = sym (get_or_from_slice_get c.args.kept.now.windows c.args.from w w c.window-at.ensures.window) in
-    let need = c.cut_size-need.ensures.value in
-    let fits : cut_size test w ≤ c.args.max = omega arith in
+    let fits = first_fits test c.args.kept.now.windows c.args.from c.args.max run.count run.last w c.requires is (λ none. omega (arith, c.if-run-eq0.false, none)) c.longest_run-run.ensures.run in
     let served = served_run test c.args.kept.now.windows c.args.from c.args.max run.count run.last size w c.requires is fits c.longest_run-run.ensures.run in
     let bytes = run_bytes test c.args.kept.now.windows c.args.from c.args.max run.count run.last size served in
     rw (p.1, p.2) (sent_part (told (g.W.Sink.written c.args.out.now) (g.W.Sink.room c.args.out.now)) (told (g.W.Sink.written c.send_windows.new.out) (g.W.Sink.room c.send_windows.new.out)) c.in_err-bytes.field-0.0 _ _ bytes c.in_err-bytes.ensures.sends).short
@@ -64,8 +62,7 @@ returns-in_err-bytes-clause-full g c =
     let size = total_size (run_from test c.args.kept.now.windows c.args.from c.args.max) in
     let w = c.window-at.result.1.now.window.value in
     let is = sym (get_or_from_slice_get c.args.kept.now.windows c.args.from w w c.window-at.ensures.window) in
-    let need = c.cut_size-need.ensures.value in
-    let fits : cut_size test w ≤ c.args.max = omega arith in
+    let fits = first_fits test c.args.kept.now.windows c.args.from c.args.max run.count run.last w c.requires is (λ none. omega (arith, c.if-run-eq0.false, none)) c.longest_run-run.ensures.run in
     let served = served_run test c.args.kept.now.windows c.args.from c.args.max run.count run.last size w c.requires is fits c.longest_run-run.ensures.run in
     let bytes = run_bytes test c.args.kept.now.windows c.args.from c.args.max run.count run.last size served in
     rw p.1 (sent_part (told (g.W.Sink.written c.args.out.now) (g.W.Sink.room c.args.out.now)) (told (g.W.Sink.written c.send_windows.new.out) (g.W.Sink.room c.send_windows.new.out)) c.in_err-bytes.field-0.0 _ _ bytes c.in_err-bytes.ensures.sends).full
@@ -77,8 +74,7 @@ returns-clause-written g c =
     let size = total_size (run_from test c.args.kept.now.windows c.args.from c.args.max) in
     let w = c.window-at.result.1.now.window.value in
     let is = sym (get_or_from_slice_get c.args.kept.now.windows c.args.from w w c.window-at.ensures.window) in
-    let need = c.cut_size-need.ensures.value in
-    let fits : cut_size test w ≤ c.args.max = omega arith in
+    let fits = first_fits test c.args.kept.now.windows c.args.from c.args.max run.count run.last w c.requires is (λ none. omega (arith, c.if-run-eq0.false, none)) c.longest_run-run.ensures.run in
     let served = served_run test c.args.kept.now.windows c.args.from c.args.max run.count run.last size w c.requires is fits c.longest_run-run.ensures.run in
     let bytes = run_bytes test c.args.kept.now.windows c.args.from c.args.max run.count run.last size served in
     subst (Appends (g.W.Sink.written c.args.out.now) (g.W.Sink.written c.send_windows.new.out)) bytes c.in_ok-bytes.ensures.sends.1
@@ -90,27 +86,26 @@ returns-clause-room g c =
     let size = total_size (run_from test c.args.kept.now.windows c.args.from c.args.max) in
     let w = c.window-at.result.1.now.window.value in
     let is = sym (get_or_from_slice_get c.args.kept.now.windows c.args.from w w c.window-at.ensures.window) in
-    let need = c.cut_size-need.ensures.value in
-    let fits : cut_size test w ≤ c.args.max = omega arith in
+    let fits = first_fits test c.args.kept.now.windows c.args.from c.args.max run.count run.last w c.requires is (λ none. omega (arith, c.if-run-eq0.false, none)) c.longest_run-run.ensures.run in
     let served = served_run test c.args.kept.now.windows c.args.from c.args.max run.count run.last size w c.requires is fits c.longest_run-run.ensures.run in
     let bytes = run_bytes test c.args.kept.now.windows c.args.from c.args.max run.count run.last size served in
     subst (λ text. RoomLeft (g.W.Sink.room c.args.out.now) (g.W.Sink.room c.send_windows.new.out) (length text)) bytes c.in_ok-bytes.ensures.sends.2
 
-pub returns-then-need-max-clause-answer : goal.returns-then-need-max-clause-answer
-returns-then-need-max-clause-answer g c =
+pub returns-then-run-eq0-clause-answer : goal.returns-then-run-eq0-clause-answer
+returns-then-run-eq0-clause-answer g c =
     let test = g.F.Accepts.test c.args.filter.now in
     let w = c.window-at.result.1.now.window.value in
     let is = sym (get_or_from_slice_get c.args.kept.now.windows c.args.from w w c.window-at.ensures.window) in
-    let large : c.args.max < cut_size test w = omega (arith, c.cut_size-need.ensures.value, c.if-need-max.true) in
+    let large = none_fits test c.args.kept.now.windows c.args.from c.args.max c.longest_run-run.result.count c.longest_run-run.result.last w c.requires is (omega (arith, c.if-run-eq0.true)) c.longest_run-run.ensures.run in
     let small = served_small test c.args.kept.now.windows c.args.from c.args.max w c.requires is large in
-    subst (IsServed (TooSmall c.cut_size-need.result)) (sym small) c.cut_size-need.ensures.value
+    subst (IsServed (TooSmall c.cut_size.result)) (sym small) c.cut_size.ensures.value
 
-pub returns-then-need-max-clause-written : goal.returns-then-need-max-clause-written
-returns-then-need-max-clause-written g c =
+pub returns-then-run-eq0-clause-written : goal.returns-then-run-eq0-clause-written
+returns-then-run-eq0-clause-written g c =
     let test = g.F.Accepts.test c.args.filter.now in
     let w = c.window-at.result.1.now.window.value in
     let is = sym (get_or_from_slice_get c.args.kept.now.windows c.args.from w w c.window-at.ensures.window) in
-    let large : c.args.max < cut_size test w = omega (arith, c.cut_size-need.ensures.value, c.if-need-max.true) in
+    let large = none_fits test c.args.kept.now.windows c.args.from c.args.max c.longest_run-run.result.count c.longest_run-run.result.last w c.requires is (omega (arith, c.if-run-eq0.true)) c.longest_run-run.ensures.run in
     let small = served_small test c.args.kept.now.windows c.args.from c.args.max w c.requires is large in
     let written = g.W.Sink.written c.args.out.now in
     subst (λ served. Appends written written (windows_sent served)) (sym small) (Appends-nil written)
@@ -122,8 +117,7 @@ returns-clause-answer g c =
     let size = total_size (run_from test c.args.kept.now.windows c.args.from c.args.max) in
     let w = c.window-at.result.1.now.window.value in
     let is = sym (get_or_from_slice_get c.args.kept.now.windows c.args.from w w c.window-at.ensures.window) in
-    let need = c.cut_size-need.ensures.value in
-    let fits : cut_size test w ≤ c.args.max = omega arith in
+    let fits = first_fits test c.args.kept.now.windows c.args.from c.args.max run.count run.last w c.requires is (λ none. omega (arith, c.if-run-eq0.false, none)) c.longest_run-run.ensures.run in
     let served = served_run test c.args.kept.now.windows c.args.from c.args.max run.count run.last size w c.requires is fits c.longest_run-run.ensures.run in
     let sent : c.in_ok-bytes.bytes ≡ size = omega (arith, c.in_ok-bytes.ensures.sends.0, bytes_long (cuts test (take run.count (drop c.args.from c.args.kept.now.windows))), ap total_size served.front) in
     let told = subst (λ n. AreTold run.count run.last n (run_from test c.args.kept.now.windows c.args.from c.args.max)) (sym sent) served.told in

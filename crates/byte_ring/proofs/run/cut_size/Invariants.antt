@@ -9,6 +9,6 @@ abbrev pub invariant-loop-i : goal.invariant-loop-i
 invariant-loop-i g l =
     let w = l.slot.window.value in
     record {
-      there : Stands l.circle.bytes l.place (changes_bytes w.scn (drop l._i w.changes));
+      there : Stands l.bytes l.place (changes_bytes w.scn (drop l._i w.changes));
       size : l.size + changes_size (accepted (g.F.Accepts.test l.filter) (drop l._i w.changes)) ≡ cut_size (g.F.Accepts.test l.filter) w;
     }

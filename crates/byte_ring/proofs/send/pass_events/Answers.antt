@@ -6,9 +6,17 @@ use Rattle.byte_ring.proofs.Moving.{moves_more, moves_broken, moves_end}
 use Rattle.byte_ring.proofs.Standing.{event, next_event, bytes_next, part_short}
 use Rattle.byte_ring.proofs.send.pass_events.Goals as goal
 
-pub event_at-event-requires : goal.event_at-event-requires
-event_at-event-requires g c =
-    let bytes = c.args.circle.now.bytes in
+pub event_size-size-requires : goal.event_size-size-requires
+event_size-size-requires g c =
+    let bytes = c.args.bytes.now in
+    let w = c.args.slot.now.window.value in
+    let lt : c.loop-i._i < length w.changes = omega (arith, c.requires.there.count, c.loop-i-test.true) in
+    let n = next_event bytes c.loop-i.place w c.loop-i._i c.requires.there.is lt c.loop-i.invariant.there in
+    n.head
+
+pub accepts_event-accepted-requires : goal.accepts_event-accepted-requires
+accepts_event-accepted-requires g c =
+    let bytes = c.args.bytes.now in
     let w = c.args.slot.now.window.value in
     let lt : c.loop-i._i < length w.changes = omega (arith, c.requires.there.count, c.loop-i-test.true) in
     let n = next_event bytes c.loop-i.place w c.loop-i._i c.requires.there.is lt c.loop-i.invariant.there in
@@ -16,49 +24,51 @@ event_at-event-requires g c =
 
 pub pass_event-requires-clause-within : goal.pass_event-requires-clause-within
 pass_event-requires-clause-within g c =
-    let bytes = c.args.circle.now.bytes in
+    let bytes = c.args.bytes.now in
     let w = c.args.slot.now.window.value in
     let lt : c.loop-i._i < length w.changes = omega (arith, c.requires.there.count, c.loop-i-test.true) in
     let n = next_event bytes c.loop-i.place w c.loop-i._i c.requires.there.is lt c.loop-i.invariant.there in
-    let is = c.event_at-event.ensures (event w.scn n.c) n.there.rest n.there.there n.is in
-    omega (arith, is.size, n.within)
+    let is = c.event_size-size.ensures (event w.scn n.c) n.there.rest n.there.there n.is in
+    omega (arith, is, n.within)
 
 pub returns-in_err-pending-clause-moves : goal.returns-in_err-pending-clause-moves
 returns-in_err-pending-clause-moves g c =
     let p = err_from_is_err_and c.from_residual.result c.from_residual.ensures.1 in
-    let bytes = c.args.circle.now.bytes in
+    let bytes = c.args.bytes.now in
     let w = c.args.slot.now.window.value in
     let lt : c.loop-i._i < length w.changes = omega (arith, c.requires.there.count, c.loop-i-test.true) in
     let n = next_event bytes c.loop-i.place w c.loop-i._i c.requires.there.is lt c.loop-i.invariant.there in
-    let is = c.event_at-event.ensures (event w.scn n.c) n.there.rest n.there.there n.is in
+    let is = c.event_size-size.ensures (event w.scn n.c) n.there.rest n.there.there n.is in
+    let same = c.accepts_event-accepted.ensures (event w.scn n.c) n.there.rest n.there.there n.is in
     let test = g.F.Accepts.test c.args.filter.now in
-    let left = bytes_next test bytes c.loop-i.place w.scn w.changes c.loop-i._i n c.event_at-event.result is in
+    let left = bytes_next test bytes c.loop-i.place w.scn w.changes c.loop-i._i n c.event_size-size.result c.accepts_event-accepted.result is same in
     rw (p.1, p.2) (moves_broken bytes (told (g.W.Sink.written c.args.out.now) (g.W.Sink.room c.args.out.now)) c.args.pending _ (told (g.W.Sink.written c.loop-i.out) (g.W.Sink.room c.loop-i.out)) (told (g.W.Sink.written c.pass_event.new.out) (g.W.Sink.room c.pass_event.new.out)) c.loop-i.pending c.in_err-pending.field-0.0 _ _ _ left c.loop-i.invariant.moves c.in_err-pending.ensures.moves)
 
 pub overflow_add-place : goal.overflow_add-place
 overflow_add-place g c =
-    let bytes = c.args.circle.now.bytes in
+    let bytes = c.args.bytes.now in
     let w = c.args.slot.now.window.value in
     let lt : c.loop-i._i < length w.changes = omega (arith, c.requires.there.count, c.loop-i-test.true) in
     let n = next_event bytes c.loop-i.place w c.loop-i._i c.requires.there.is lt c.loop-i.invariant.there in
-    let is = c.event_at-event.ensures (event w.scn n.c) n.there.rest n.there.there n.is in
-    omega (arith, is.size, n.within, c.len-within.ensures)
+    let is = c.event_size-size.ensures (event w.scn n.c) n.there.rest n.there.there n.is in
+    omega (arith, is, n.within, c.len-within.ensures)
 
 pub loop-i-preserved : goal.loop-i-preserved
 loop-i-preserved g c =
-    let bytes = c.args.circle.now.bytes in
+    let bytes = c.args.bytes.now in
     let w = c.args.slot.now.window.value in
     let lt : c.loop-i._i < length w.changes = omega (arith, c.requires.there.count, c.loop-i-test.true) in
     let n = next_event bytes c.loop-i.place w c.loop-i._i c.requires.there.is lt c.loop-i.invariant.there in
-    let is = c.event_at-event.ensures (event w.scn n.c) n.there.rest n.there.there n.is in
+    let is = c.event_size-size.ensures (event w.scn n.c) n.there.rest n.there.there n.is in
+    let same = c.accepts_event-accepted.ensures (event w.scn n.c) n.there.rest n.there.there n.is in
     let test = g.F.Accepts.test c.args.filter.now in
-    let left = bytes_next test bytes c.loop-i.place w.scn w.changes c.loop-i._i n c.event_at-event.result is in
+    let left = bytes_next test bytes c.loop-i.place w.scn w.changes c.loop-i._i n c.event_size-size.result c.accepts_event-accepted.result is same in
     let moved = c.in_ok-pending.ensures.moves in
     record {
-      there = rw is.size n.next;
+      there = rw is n.next;
       moves = moves_more bytes (told (g.W.Sink.written c.args.out.now) (g.W.Sink.room c.args.out.now)) c.args.pending _ (told (g.W.Sink.written c.loop-i.out) (g.W.Sink.room c.loop-i.out)) (told (g.W.Sink.written c.pass_event.new.out) (g.W.Sink.room c.pass_event.new.out)) c.loop-i.pending c.in_ok-pending.pending _ _ _ left c.loop-i.invariant.moves moved;
       awaiting = moved.awaiting;
-      few = omega (arith, moved.count, c.loop-i.invariant.few, part_short test bytes c.loop-i.place w.scn w.changes c.loop-i._i n c.event_at-event.result is);
+      few = omega (arith, moved.count, c.loop-i.invariant.few, part_short test bytes c.loop-i.place w.scn w.changes c.loop-i._i n c.event_size-size.result c.accepts_event-accepted.result is same);
       beside = c.in_ok-pending.ensures.beside ∙ c.loop-i.invariant.beside;
       later = omega (arith, c.in_ok-pending.ensures.cause.later, c.loop-i.invariant.later);
     }
@@ -67,4 +77,4 @@ pub returns-clause-moves : goal.returns-clause-moves
 returns-clause-moves g c =
     let w = c.args.slot.now.window.value in
     let over = changes_over (g.F.Accepts.test c.args.filter.now) w.scn w.changes c.loop-i._i (omega (arith, c.requires.there.count, c.loop-i-test.false)) in
-    moves_end c.args.circle.now.bytes _ c.args.pending _ _ c.loop-i.pending _ over c.loop-i.invariant.awaiting c.loop-i.invariant.moves
+    moves_end c.args.bytes.now _ c.args.pending _ _ c.loop-i.pending _ over c.loop-i.invariant.awaiting c.loop-i.invariant.moves

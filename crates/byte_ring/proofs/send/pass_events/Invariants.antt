@@ -11,10 +11,10 @@ invariant-loop-i g l =
     let w = l.slot.window.value in
     let test = g.F.Accepts.test l.filter in
     record {
-      there : Stands l.circle.bytes l.place (changes_bytes w.scn (drop l._i w.changes));
-      moves : MovesOn l.circle.bytes (told (g.W.Sink.written l.fn.out) (g.W.Sink.room l.fn.out)) l.fn.pending (changes_bytes w.scn (accepted test w.changes))
+      there : Stands l.bytes l.place (changes_bytes w.scn (drop l._i w.changes));
+      moves : MovesOn l.bytes (told (g.W.Sink.written l.fn.out) (g.W.Sink.room l.fn.out)) l.fn.pending (changes_bytes w.scn (accepted test w.changes))
           (told (g.W.Sink.written l.out) (g.W.Sink.room l.out)) l.pending (changes_bytes w.scn (accepted test (drop l._i w.changes)));
-      awaiting : Awaiting l.circle.bytes l.pending;
+      awaiting : Awaiting l.bytes l.pending;
       few : passed l.pending + changes_size (drop l._i w.changes) ≤ passed l.fn.pending + changes_size w.changes;
       beside : g.W.Sink.beside l.out ≡ g.W.Sink.beside l.fn.out;
       later : g.W.Sink.faults l.fn.out ≤ g.W.Sink.faults l.out;

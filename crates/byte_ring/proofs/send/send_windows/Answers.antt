@@ -11,7 +11,7 @@ returns-in_err-pending-clause-sends g c =
     let p = err_from_is_err_and c.from_residual.result c.from_residual.ensures.1 in
     let test = g.F.Accepts.test c.args.filter.now in
     let ws = c.args.kept.now.windows in
-    let bytes = c.circle-circle.result.now.bytes in
+    let bytes = c.bytes-bytes.result in
     let w = c.window-at.result.1.now.window.value in
     let is = sym (get_or_from_slice_get ws (c.args.from + c.loop-i.i) w w c.window-at.ensures.window) in
     let left = windows_left test ws c.args.from c.loop-i.i c.args.count w c.loop-i-test.true (omega (arith, c.loop-i-test.true, c.requires)) is in
@@ -23,7 +23,7 @@ pub loop-i-preserved : goal.loop-i-preserved
 loop-i-preserved g c =
     let test = g.F.Accepts.test c.args.filter.now in
     let ws = c.args.kept.now.windows in
-    let bytes = c.circle-circle.result.now.bytes in
+    let bytes = c.bytes-bytes.result in
     let w = c.window-at.result.1.now.window.value in
     let is = sym (get_or_from_slice_get ws (c.args.from + c.loop-i.i) w w c.window-at.ensures.window) in
     let left = windows_left test ws c.args.from c.loop-i.i c.args.count w c.loop-i-test.true (omega (arith, c.loop-i-test.true, c.requires)) is in
@@ -39,7 +39,7 @@ loop-i-preserved g c =
 pub returns-clause-sends : goal.returns-clause-sends
 returns-clause-sends g c =
     let test = g.F.Accepts.test c.args.filter.now in
-    let bytes = c.circle-circle.result.now.bytes in
+    let bytes = c.bytes-bytes.result in
     let over = windows_over test (drop (c.args.from + c.loop-i.i) c.args.kept.now.windows) c.args.count c.loop-i.i c.loop-i-test.false in
     let all = moves_end bytes _ _ _ _ c.loop-i.pending _ over c.loop-i.invariant.awaiting c.loop-i.invariant.moves in
     moves_sends bytes (told (g.W.Sink.written c.args.out.now) (g.W.Sink.room c.args.out.now)) (told (g.W.Sink.written c.loop-i.out) (g.W.Sink.room c.loop-i.out)) (told (g.W.Sink.written c.send_pending.new.out) (g.W.Sink.room c.send_pending.new.out)) c.loop-i.pending c.send_pending.result _ all c.send_pending.ensures.sends
