@@ -12,7 +12,6 @@ pub mod GoodReplay
 pub mod GoodTurn
 pub mod Standing
 pub mod Growing
-pub mod Items
 pub mod Coming
 pub mod Turns
 pub mod Settling

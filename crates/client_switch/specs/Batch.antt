@@ -1,9 +1,8 @@
--- The changes of windows, as they are gathered.
-use Rattle.std.specs.Prelude.{List, [], ◌∷◌}
-use Rattle.bus_types.specs.declared.change.Change.{Change}
+-- Windows that are gathered item by item.
+use Rattle.std.specs.Prelude.{ℕ, ◌+◌, List, length}
 use Rattle.bus_types.specs.Window.{Span}
+use Rattle.client_switch.specs.Moves.{changes_of}
 
--- the changes of the first window
-abbrev pub first_changes : List Span → List Change
-first_changes [] = []
-first_changes (w ∷ ws) = w.changes
+-- how many marks and changes of windows are left
+abbrev pub items_left : List Span → ℕ
+items_left ws = length ws + length (changes_of ws)

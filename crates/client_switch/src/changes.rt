@@ -1,28 +1,30 @@
-ghost use Rattle.std.specs.Prelude.{◌≡◌, ◌++◌, [], map, IfOk};
-ghost use Rattle.event_codec.specs.Parsing.{without_events};
+ghost use Rattle.std.specs.Prelude.{◌≡◌, ◌<◌, ◌++◌, [], true, false, map, IfOk};
 ghost use Rattle.event_codec.specs.Questions.{Reply};
 ghost use Rattle.event_codec.specs.ReplyViews.{Spells};
 ghost use Rattle.client_switch.specs.Moves.{changes_of};
-ghost use Rattle.client_switch.specs.Batch.{first_changes};
+ghost use Rattle.client_switch.specs.Batch.{items_left};
 ghost use Rattle.client_switch.specs.Turning.{items_of};
 
 use bus_types::{Change, NoMemory};
 use event_codec::{MARK_SIZE, ReplyView, Run, Shape, Windows};
 use std::alloc::Global;
 
-// Takes the events of the window in front: their changes are appended, and its mark is left.
-fn take_events(
+// Takes the next item of windows: an event, whose change is appended, or a mark. `false` comes only where none is left.
+#[inline(always)]
+fn take_item(
     alloc: Global,
     left: &mut Windows<'_>,
     changes: &mut Vec<Change>,
-) -> Result<(), NoMemory>
-    ensures taken { IfOk result (λ _. changes.new.items ≡ changes.old.items ++ first_changes left.old) }
-    ensures behind { IfOk result (λ _. left.new ≡ without_events left.old) }
+) -> Result<bool, NoMemory>
+    ensures taken { IfOk result (λ _. changes.new.items ++ changes_of left.new ≡ changes.old.items ++ changes_of left.old) }
+    ensures more { IfOk result (λ more. more ≡ true → items_left left.new < items_left left.old) }
+    ensures end { IfOk result (λ more. more ≡ false → changes_of left.new ≡ []) }
 {
-    while let Some((event, _own)) = left.event() {
+    if let Some((event, _own)) = left.event() {
         changes.push(event.change(alloc)?)?;
+        return Ok(true);
     }
-    Ok(())
+    Ok(left.mark().is_some())
 }
 
 // The changes of windows, in order, in this room.
@@ -36,10 +38,7 @@ fn windows_changes(
 {
     let mut changes = room;
     let mut left = windows.again();
-    take_events(alloc, &mut left, &mut changes)?;
-    while let Some(_mark) = left.mark() {
-        take_events(alloc, &mut left, &mut changes)?;
-    }
+    'items: while take_item(alloc, &mut left, &mut changes)? {}
     Ok(changes)
 }
 
