@@ -1,4 +1,4 @@
-ghost use Rattle.std.specs.Prelude.{◌≡◌, ◌+◌, ◌≤◌, ◌++◌, List, ℕ, length, drop};
+ghost use Rattle.std.specs.Prelude.{◌≡◌, ◌+◌, ◌≤◌, ◌++◌, true, List, ℕ, length, drop};
 ghost use Rattle.event_codec.specs.Bytes.{Event, IsEvent, event_bytes};
 ghost use Rattle.byte_ring.specs.Parts.{WindowAt};
 
@@ -18,6 +18,15 @@ pub(crate) fn event_size(bytes: &Halves<'_>, at: usize) -> usize
 {
     let _len = bytes.len();
     HEAD_SIZE + bytes.word(at + 19) as usize
+}
+
+/// As [`event_size`], where one is left, and else 0.
+#[inline(always)]
+pub(crate) fn size_left(bytes: &Halves<'_>, at: usize, left: bool) -> usize
+    requires { left ≡ true → at + 23 ≤ length bytes.now }
+    ensures { left ≡ true → (e : Event) (rest : List ℕ) → drop at bytes.now ≡ event_bytes e ++ rest → IsEvent e → result ≡ length (event_bytes e) }
+{
+    if left { event_size(bytes, at) } else { 0 }
 }
 
 /// Whether a filter accepts the event that begins at a place.

@@ -9,7 +9,7 @@ ghost use Rattle.event_codec.specs.Streams.{windows_bytes};
 ghost use Rattle.plain_buffer.specs.Send.{told, Sends};
 ghost use Rattle.byte_ring.specs.Parts.{between, passed, Awaiting, WindowAt, Moves};
 
-use crate::event::{accepts_event, event_size};
+use crate::event::{accepts_event, size_left};
 use crate::halves::Halves;
 use crate::kept::{Kept, Slot};
 use bus_io::{Sink, WriteFault, write_all};
@@ -138,11 +138,15 @@ fn pass_events<F: Accepts, W: Sink>(
     let _within = bytes.len();
     let mut pending = pending;
     let mut place = at;
-    for _i in 0..slot.count {
-        let size = event_size(bytes, place);
+    let mut size = size_left(bytes, at, 0 < slot.count);
+    for i in 0..slot.count {
+        // The next event's size is read before the filter is asked, so that no wait for its bytes stands behind that answer.
+        let next = place + size;
+        let next_size = size_left(bytes, next, i + 1 < slot.count);
         let accepted = accepts_event(bytes, place, filter);
         pending = pass_event(bytes, pending, place, size, accepted, out)?;
-        place += size;
+        place = next;
+        size = next_size;
     }
     Ok(pending)
 }
