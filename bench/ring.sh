@@ -1,9 +1,10 @@
 #!/bin/bash
 # Times readers of a shared ring, which open, read every byte of what they opened where it stands, and end, while one feeder
 # publishes; and the same readers of a buffer behind a lock. Those copy what they are served under the lock and read their copy
-# outside, as a server has to, which can't hold a lock while it writes to a connection. Readers begin 128 windows apart, read
-# eight bytes at a time, go on where they stopped, and begin again above the floor where they fell behind it. It prints how many
-# windows a second all readers read together, the best of three runs. Build it first: (cd crates/ring_bench && rt run)
+# outside, as a server has to, which can't hold a lock while it writes to a connection. Ring and buffer have room for 65,536
+# windows or 64 MiB and are full before the readers begin, a quarter of them apart. Readers read eight bytes at a time, go on
+# where they stopped, and begin again above the floor where they fell behind it. It prints how many windows a second all readers
+# read together, the best of three runs. Build it first: (cd crates/ring_bench && rt run)
 set -euo pipefail
 cd "$(dirname "$0")/.."
 program=crates/ring_bench/out/ring_bench
