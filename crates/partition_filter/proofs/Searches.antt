@@ -1,5 +1,5 @@
 -- Searches in what rises.
-use Rattle.std.proofs.Common.{◌≡◌, ℕ, zero, suc, ◌+◌, ◌<◌, ◌≤◌, Bool, true, false, ◌==◌, ◌&&◌, ◌||◌, nat_lt, ltb, inl, inr, List, [], ◌∷◌, length, map, get_or, Option, Some, None, Result, Ok, Err, refl, sym, ap, arith}
+use Rattle.std.proofs.Common.{◌≡◌, ℕ, zero, suc, ◌+◌, ◌<◌, ◌≤◌, Bool, true, false, ◌==◌, ◌&&◌, ◌||◌, nat_lt, ltb, inl, inr, List, [], ◌∷◌, length, map, get_or, Option, Some, None, Result, Ok, Err, refl, sym, ap, subst, arith}
 use Rattle.std.specs.List.{list_any, AllByRecursion}
 use Rattle.std.specs.List.Sorted.{IsNonDecreasingBy, IsPartitionPoint}
 use Rattle.std.specs.Result.{MatchResult, is_ok}
@@ -100,3 +100,22 @@ pub each_at : {X : Type 0} (P : X → Type 0) (xs : List X) (i : ℕ) (d : X) �
 each_at P [] i d h lt = absurd (omega arith)
 each_at P (x ∷ xs) zero d h lt = h.0
 each_at P (x ∷ xs) (suc i) d h lt = each_at P xs i d h.1 (omega arith)
+
+-- ---- the first of what rises
+
+-- what rises behind a number rises
+pub rises_alone : (b : ℕ) (xs : List ℕ) → rises (Some b) xs ≡ true → rises None xs ≡ true
+rises_alone b [] h = refl
+rises_alone b (x ∷ xs) h = (and_parts (nat_lt b x) (rises (Some x) xs) h).1
+
+-- what rises still rises behind its first
+pub rises_behind : {X : Type 0} (n : X → ℕ) (all xs : List X) (x : X) → rises None (map n all) ≡ true → all ≡ x ∷ xs → rises None (map n xs) ≡ true
+rises_behind n all xs x h is = rises_alone (n x) (map n xs) (subst (λ l. rises None (map n l) ≡ true) is h)
+
+-- at the number of the first a test is the test of the first
+pub only_first : {X : Type 0} (n : X → ℕ) (t : X → Bool) (wanted : ℕ) (x : X) (xs : List X) → rises None (map n (x ∷ xs)) ≡ true
+    → n x ≡ wanted → t x ≡ list_any (passes n t wanted) (x ∷ xs)
+only_first n t wanted x xs h same =
+    let here = eq-eqb (n x) wanted same in
+    let none = none_later n t wanted (n x) xs h (omega arith) in
+    rw (here, none) (sym (or_false (t x)))

@@ -13,6 +13,7 @@ use bus_types::Key;
 const FEW: usize = 8;
 
 /// Whether one of the rules accepts the row: at most one is of its source.
+#[inline(always)]
 pub(crate) fn accepts(rules: &[Rule], source: u16, key: &Key) -> bool
     requires rising { rises None (map (λ r. r.source) rules.now) ≡ true }
     requires each { AllByRecursion IsRule rules.now }
@@ -25,15 +26,21 @@ pub(crate) fn accepts(rules: &[Rule], source: u16, key: &Key) -> bool
     }
 }
 
-/// As [`accepts`], by a look at each rule.
+/// As [`accepts`], by a look at one rule after another, up to that of the source.
+#[tactic(auto, using(crate::proofs::Searches::rises_behind))]
 fn accepts_in_order(rules: &[Rule], source: u16, key: &Key) -> bool
+    requires rising { rises None (map (λ r. r.source) rules.now) ≡ true }
     requires each { AllByRecursion IsRule rules.now }
     ensures { result ≡ list_any (λ r. r.source == source && accepts_key r.keys key.now) rules.now }
 {
     let Some((rule, others)) = rules.split_first() else {
         return false;
     };
-    rule.source == source && accepts_key(&rule.keys, key) || accepts_in_order(others, source, key)
+    if rule.source == source {
+        accepts_key(&rule.keys, key)
+    } else {
+        accepts_in_order(others, source, key)
+    }
 }
 
 /// As [`accepts`], by a search for the rule of the source.
@@ -60,6 +67,7 @@ fn place_of(rules: &[Rule], source: u16) -> usize
     rules.partition_point(|rule| rule.source < source)
 }
 
+#[inline(always)]
 fn accepts_key(keys: &Keys, key: &Key) -> bool
     requires { IsKeys keys.now }
     ensures { result ≡ accepts_key keys.now key.now }
@@ -72,11 +80,14 @@ fn accepts_key(keys: &Keys, key: &Key) -> bool
     }
 }
 
+#[inline(always)]
 fn contains(numbers: &[u64], number: u64) -> bool
     requires { rises None numbers.now ≡ true }
     ensures { result ≡ list_any (λ b. b == number) numbers.now }
 {
-    if numbers.len() <= FEW {
+    if let [only] = numbers {
+        *only == number
+    } else if numbers.len() <= FEW {
         numbers.contains(&number)
     } else {
         contains_by_halves(numbers, number)

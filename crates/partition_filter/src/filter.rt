@@ -164,6 +164,7 @@ impl Accepts for Filter {
 
     ghost test = { test_of };
 
+    #[inline(always)]
     fn accepts(&self, source: u16, key: &Key) -> bool {
         match &self.rules {
             None => true,
