@@ -8,7 +8,6 @@ pub mod Replies
 pub mod Asking
 pub mod Talks
 pub mod Sent
-pub mod Pages
 pub mod Turns
 pub mod Answers
 pub mod Receiving

@@ -6,7 +6,6 @@ ghost use Rattle.bus_http.specs.Talks.{status_of};
 ghost use Rattle.bus_http.specs.Replies.{reply_front, head_close, reply_head, refusal};
 
 use bus_io::{Sink, WriteFault, write_all};
-use bus_types::NoMemory;
 use itoa::Buffer;
 
 /// Why a request is not answered, as the peer is told it.
@@ -95,18 +94,6 @@ pub fn write_reply_head<W: Sink>(out: &mut W, size: u64) -> Result<(), WriteFaul
     let mut room = [0; MOST];
     let end = put_reply_head(&mut room, size);
     write_all(out, &room[..end])
-}
-
-/// Appends the head of an answer whose body is the reply of so many bytes, for who writes both at once. `NoMemory` comes where
-/// there is not so much room; what stood there stands.
-pub fn append_reply_head(out: &mut Vec<u8>, size: u64) -> Result<(), NoMemory>
-    ensures ok { OnOk result (out.new.items ≡ out.old.items ++ reply_head size) }
-    ensures back { OnErr result (out.new.items ≡ out.old.items) }
-{
-    let mut room = [0; MOST];
-    let end = put_reply_head(&mut room, size);
-    out.extend_from_slice(&room[..end])?;
-    Ok(())
 }
 
 #[tactic(auto, unfolding(crate::specs::Replies::refusal))]

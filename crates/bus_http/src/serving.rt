@@ -6,7 +6,6 @@ ghost use Rattle.bus_http.specs.Turns.{silent_end, Refusing, Declining, Answerin
 
 use crate::fault::RequestFault;
 use crate::inbox::Inbox;
-use crate::page::Page;
 use crate::reply::Refused;
 use crate::request::{Request, read_request};
 use crate::sending::{send_refusal, send_reply};
@@ -70,22 +69,14 @@ pub fn decline<W: Sink>(out: &mut W, fault: RequestFault) -> ServeEnd
     }
 }
 
-/// What is gathered for an answer, and used again for the next.
-#[derive(Debug, Drop)]
-struct Room {
-    // The bytes of the reply.
-    body: Vec<u8>,
-    page: Page,
-}
-
-// Writes the reply that stands in the room, and says how the connection ends, where it does.
-fn answer<W: Sink>(out: &mut W, room: &mut Room, close: bool) -> Option<ServeEnd>
-    ensures answering { Answering close room.old.body.items (W.written out.old) (W.written out.new) result }
+// Writes a reply, and says how the connection ends, where it does.
+fn answer<W: Sink>(out: &mut W, body: &[u8], close: bool) -> Option<ServeEnd>
+    ensures answering { Answering close body.now (W.written out.old) (W.written out.new) result }
     ensures later { W.faults out.old ≤ W.faults out.new }
     ensures risen { IfSome result (λ end. IsWriteEnd end → Rose (W.faults out.old) (W.faults out.new)) }
     ensures beside { W.beside out.new ≡ W.beside out.old }
 {
-    let Ok(()) = send_reply(out, &mut room.page, &room.body) else {
+    let Ok(()) = send_reply(out, body) else {
         return Some(ServeEnd::WriteFault);
     };
     if close {
@@ -99,7 +90,7 @@ fn respond<S: Service, W: Sink>(
     alloc: Global,
     service: &mut S,
     out: &mut W,
-    room: &mut Room,
+    body: &mut Vec<u8>,
     request: &Request,
 ) -> Option<ServeEnd>
     requires { IsAskOf S.side request.now.ask }
@@ -109,9 +100,9 @@ fn respond<S: Service, W: Sink>(
     ensures risen { IfSome result (λ end. IsWriteEnd end → Rose (W.faults out.old) (W.faults out.new)) }
     ensures beside { W.beside out.new ≡ W.beside out.old }
 {
-    room.body.clear();
-    match service.reply(alloc, &request.ask, &mut room.body) {
-        Ok(()) => answer(out, room, request.close),
+    body.clear();
+    match service.reply(alloc, &request.ask, body) {
+        Ok(()) => answer(out, body, request.close),
         Err(Unanswered::Failed) => Some(refuse(out, Refused::ServerError)),
         Err(Unanswered::NoMemory) => Some(ServeEnd::NoMemory),
     }
@@ -123,7 +114,7 @@ fn turn<S: Service, C: Conn>(
     service: &mut S,
     conn: &mut C,
     inbox: &mut Inbox,
-    room: &mut Room,
+    body: &mut Vec<u8>,
 ) -> Option<ServeEnd>
     ensures turned { Turned S.side S.may S.keeps S.sure (S.state service.old) (S.state service.new)
         (C.given conn.old) (C.given conn.new) (C.left conn.old) (C.left conn.new)
@@ -135,7 +126,7 @@ fn turn<S: Service, C: Conn>(
     let side = service.side();
     match read_request(alloc, inbox, conn, side) {
         Ok(None) => Some(ServeEnd::Closed),
-        Ok(Some(request)) => respond(alloc, service, conn, room, &request),
+        Ok(Some(request)) => respond(alloc, service, conn, body, &request),
         Err(fault) => Some(decline(conn, fault)),
     }
 }
@@ -157,13 +148,10 @@ pub fn serve<S: Service, C: Conn>(alloc: Global, service: &mut S, conn: &mut C) 
     let Ok(mut inbox) = Inbox::new(alloc) else {
         return ServeEnd::NoMemory;
     };
-    let mut room = Room {
-        body: Vec::new(alloc),
-        page: Page::new(alloc),
-    };
+    let mut body = Vec::new(alloc);
     let mut answered = 0;
     while answered < MAX_ANSWERS {
-        if let Some(end) = turn(alloc, service, conn, &mut inbox, &mut room) {
+        if let Some(end) = turn(alloc, service, conn, &mut inbox, &mut body) {
             return end;
         }
         answered += 1;

@@ -1,5 +1,5 @@
 -- Connections that are new.
-use Rattle.std.proofs.Common.{◌≡◌, ℕ, suc, refl, ◌<◌, ◌+◌, List, ◌++◌, length, Option, Some, None, arith, subst}
+use Rattle.std.proofs.Common.{◌≡◌, suc, List, ◌++◌, Option, Some, None, arith, subst}
 use Rattle.std.specs.Prelude.{All, option_to_list}
 use Rattle.std.proofs.lemmas.List.Elements.{All-push}
 use Rattle.bus_io.specs.Memory.{Wire}

@@ -1,5 +1,5 @@
 -- Counts over what was handed back.
-use Rattle.std.proofs.Common.{◌≡◌, ℕ, refl, ◌<◌, ◌≤◌, ◌+◌, List, [], ◌∷◌, ◌++◌, ap, subst, sym, arith}
+use Rattle.std.proofs.Common.{◌≡◌, ℕ, ◌+◌, List, [], ◌∷◌, ◌++◌, subst, sym, arith}
 use Rattle.bus_link.specs.Handed.{sum_over}
 use Rattle.bus_link.specs.Links.{TakesBack}
 use Rattle.bus_io.specs.Memory.{Wire}

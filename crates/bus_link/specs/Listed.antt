@@ -1,5 +1,5 @@
 -- Which calls of a link in memory are to fail.
-use Rattle.std.specs.Prelude.{ℕ, ◌==◌, Bool, false, List}
+use Rattle.std.specs.Prelude.{◌==◌, Bool, false, List}
 use Rattle.std.specs.List.{list_any}
 use Rattle.bus_link.specs.declared.fail.LinkFail.{LinkFail}
 use Rattle.bus_link.specs.declared.fail.LinkFail.TheVariants.{Listen, Connect, Accept}

@@ -3,7 +3,7 @@ use Rattle.std.specs.Prelude.{ℕ, ◌+◌, ◌-◌, ◌^◌, min, ◌==◌, Boo
 use Rattle.bus_types.specs.Counting.{next_count}
 use Rattle.bus_io.specs.Memory.{Wire}
 use Rattle.bus_link.specs.declared.fail.LinkFail.{LinkFail}
-use Rattle.bus_link.specs.declared.fail.LinkFail.TheVariants.{Listen, Connect, Accept}
+use Rattle.bus_link.specs.declared.fail.LinkFail.TheVariants.{Connect, Accept}
 use Rattle.bus_link.specs.Handed.{Shelf, sum_over}
 use Rattle.bus_link.specs.Links.{Told, IsFresh, IsUnused}
 use Rattle.bus_link.specs.Listed.{is_listed}

@@ -5,6 +5,7 @@
 
 mod fail;
 mod fault;
+mod gathering;
 mod kept;
 mod link;
 mod memory_door;
@@ -15,6 +16,7 @@ mod tcp;
 
 pub use fail::LinkFail;
 pub use fault::OpenFault;
+pub use gathering::Gathering;
 pub use link::{Accept, Link};
 pub use memory_door::MemoryDoor;
 pub use memory_link::MemoryLink;

@@ -1,9 +1,10 @@
 ghost use Rattle.std.specs.Prelude.{◌≡◌, ◌+◌, ◌≤◌, ◌++◌, ◌∷◌, [], None, length, IfOk, IfErr, OnOk, All};
 ghost use Rattle.bus_types.specs.Causes.{HasCause};
 ghost use Rattle.bus_link.specs.Links.{IsUnused};
-ghost use Rattle.bus_link.specs.Tcp.{IsNewCount};
+ghost use Rattle.bus_link.specs.Tcp.{IsNewCount, IsNewStream};
 
 use crate::fault::OpenFault;
+use crate::gathering::Gathering;
 use crate::link::{Accept, Link};
 use crate::returned::Returned;
 use bus_io::Streaming;
@@ -12,9 +13,11 @@ use std::alloc::Global;
 use std::marker::Model;
 use std::net::{Ipv4Addr, Net, OpenListener, OpenStream, TcpListener, TcpStream};
 
-/// A door over a bound TCP listener. It tells nothing but how often it failed.
+/// A door over a bound TCP listener. Its connections gather what is written (`Gathering`); where there is no memory for that, `accept`
+/// fails and closes the connection. It tells nothing but how often it failed.
 #[derive(Drop)]
 pub struct TcpDoor<N: Net> {
+    alloc: Global,
     listener: N::Listener,
     faults: Count,
 }
@@ -29,10 +32,11 @@ impl<N: Net> Model for TcpDoor<N> {
 
 impl<N: Net> TcpDoor<N> {
     /// A door over this listener, which has not failed yet.
-    pub fn new(listener: N::Listener) -> TcpDoor<N>
+    pub fn new(alloc: Global, listener: N::Listener) -> TcpDoor<N>
         ensures { result ≡ 0 }
     {
         TcpDoor {
+            alloc,
             listener,
             faults: Count::zero(),
         }
@@ -40,24 +44,28 @@ impl<N: Net> TcpDoor<N> {
 }
 
 impl<N: Net> Accept for TcpDoor<N> {
-    type Peer = Streaming<N::Stream>;
+    type Peer = Streaming<Gathering<N::Stream>>;
 
     ghost faults = { λ d. d };
 
     ghost finished = { λ _. None };
 
     /// Waits for the next connection to the listener's port.
-    fn accept(&mut self) -> Result<Streaming<N::Stream>, Failed> {
+    fn accept(&mut self) -> Result<Streaming<Gathering<N::Stream>>, Failed> {
         let Ok((stream, _)) = self.listener.accept() else {
             self.faults.raise();
             return Err(Failed);
         };
         hasten(&stream);
+        let Ok(stream) = Gathering::new(self.alloc, stream) else {
+            self.faults.raise();
+            return Err(Failed);
+        };
         Ok(Streaming::new(stream))
     }
 
     /// Closes the connection.
-    fn finish(&mut self, _peer: Streaming<N::Stream>) {}
+    fn finish(&mut self, _peer: Streaming<Gathering<N::Stream>>) {}
 }
 
 // Has a stream send at once what is written, so that an answer doesn't wait until the one before it was received. A stream that
@@ -70,11 +78,12 @@ fn hasten<T: OpenStream>(stream: &T) {
 /// failed.
 #[derive(Drop)]
 pub struct TcpLink<'a, N: Net> {
+    alloc: Global,
     net: &'a N,
     // A listener that was bound before; the next `listen` takes it in the place of a new one.
     bound: Option<N::Listener>,
     faults: Count,
-    hung_up: Returned<Streaming<N::Stream>>,
+    hung_up: Returned<Streaming<Gathering<N::Stream>>>,
     shut: Returned<TcpDoor<N>>,
 }
 
@@ -90,10 +99,11 @@ impl<'a, N: Net> Model for TcpLink<'a, N> {
 
 impl<'a, N: Net> TcpLink<'a, N> {
     /// A link that has not failed yet.
-    pub fn new(net: &'a N) -> TcpLink<'a, N>
+    pub fn new(alloc: Global, net: &'a N) -> TcpLink<'a, N>
         ensures { result ≡ 0 }
     {
         TcpLink {
+            alloc,
             net,
             bound: None,
             faults: Count::zero(),
@@ -103,10 +113,11 @@ impl<'a, N: Net> TcpLink<'a, N> {
     }
 
     /// A link that has not failed yet, whose next `listen` gives doors of this listener, at whatever port it is bound.
-    pub fn over(net: &'a N, listener: N::Listener) -> TcpLink<'a, N>
+    pub fn over(alloc: Global, net: &'a N, listener: N::Listener) -> TcpLink<'a, N>
         ensures { result ≡ 0 }
     {
         TcpLink {
+            alloc,
             net,
             bound: Some(listener),
             faults: Count::zero(),
@@ -121,6 +132,17 @@ impl<'a, N: Net> TcpLink<'a, N> {
     {
         self.faults.raise();
         Failed
+    }
+
+    // A connection over this stream, which sends at once what is written.
+    fn connected(&mut self, stream: N::Stream) -> Result<Streaming<Gathering<N::Stream>>, Failed>
+        ensures cause { HasCause self.old self.new result }
+        ensures fresh { IfOk result IsNewStream }
+    {
+        match Gathering::nothing(self.alloc, stream) {
+            Ok(stream) => Ok(Streaming::new(stream)),
+            Err(_) => Err(self.fail()),
+        }
     }
 
     // The listener that was bound before, or a new one.
@@ -138,13 +160,13 @@ impl<'a, N: Net> TcpLink<'a, N> {
 }
 
 // Another door over the same listener.
-fn again<N: Net>(listener: &N::Listener) -> Result<TcpDoor<N>, Failed>
+fn again<N: Net>(alloc: Global, listener: &N::Listener) -> Result<TcpDoor<N>, Failed>
     ensures { IfOk result (λ door. door ≡ 0) }
 {
     let Ok(other) = listener.try_clone() else {
         return Err(Failed);
     };
-    Ok(TcpDoor::new(other))
+    Ok(TcpDoor::new(alloc, other))
 }
 
 // So many doors over one listener. They fail where the listener can't be shared.
@@ -159,13 +181,13 @@ fn doors_over<N: Net>(
 {
     let mut made = Vec::new(alloc);
     for _ in 0..doors {
-        made.push(again(&listener)?)?;
+        made.push(again(alloc, &listener)?)?;
     }
     Ok(made)
 }
 
 impl<'a, N: Net> Link for TcpLink<'a, N> {
-    type Peer = Streaming<N::Stream>;
+    type Peer = Streaming<Gathering<N::Stream>>;
 
     type Door = TcpDoor<N>;
 
@@ -189,18 +211,18 @@ impl<'a, N: Net> Link for TcpLink<'a, N> {
     }
 
     /// Connects to the port.
-    fn connect(&mut self, port: u16) -> Result<Streaming<N::Stream>, Failed> {
+    fn connect(&mut self, port: u16) -> Result<Streaming<Gathering<N::Stream>>, Failed> {
         match TcpStream::connect(self.net, (Ipv4Addr::LOCALHOST, port)) {
             Ok(stream) => {
                 hasten(&stream);
-                Ok(Streaming::new(stream))
+                self.connected(stream)
             }
             Err(_) => Err(self.fail()),
         }
     }
 
     /// Closes the connection.
-    fn hang_up(&mut self, peer: Streaming<N::Stream>) {
+    fn hang_up(&mut self, peer: Streaming<Gathering<N::Stream>>) {
         self.hung_up.push(&peer);
     }
 

@@ -58,7 +58,7 @@ fn run_node(rt: &HostRuntime, lock: &impl Wait, words: &[String]) -> NodeStatus 
     let outside = Outside {
         input: Reading::new(rt.stdin()),
         out: Writing::new(rt.stdout()),
-        link: TcpLink::new(rt),
+        link: TcpLink::new(rt.alloc(), rt),
         keeper,
     };
     let (status, _) = node(lock, rt.alloc(), words, outside);

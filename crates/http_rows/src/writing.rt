@@ -1,5 +1,5 @@
 use crate::words::{cut, number, shown};
-use bus_http::{Refused, append_reply_head, write_refusal, write_reply_head};
+use bus_http::{Refused, write_refusal, write_reply_head};
 use bus_io::{MemorySink, WriteFault};
 use std::str;
 use std::test::Fail;
@@ -23,14 +23,7 @@ pub fn show_head(rt: &HostRuntime, row: &str) -> Result<(), Fail> {
     let (size, room) = cut(row);
     let mut out = MemorySink::new(rt.alloc(), number(room).min(1000), &[])?;
     let outcome = write_reply_head(&mut out, number(size));
-    show_written(rt, &out, outcome)?;
-    let mut text = Vec::new(rt.alloc());
-    append_reply_head(&mut text, number(size))?;
-    println!(rt;
-        "    {}",
-        shown(rt.alloc(), str::from_utf8(&text).unwrap_or("no text"))?
-    )?;
-    Ok(())
+    show_written(rt, &out, outcome)
 }
 
 /// Prints the refusal of a row `STATUS ROOM`, onto a sink that takes so many bytes.

@@ -7,7 +7,7 @@ use std::test::Fail;
 pub fn show_loopback(rt: &HostRuntime) -> Result<(), Fail> {
     let listener = TcpListener::bind(rt, "127.0.0.1:0")?;
     let port = listener.local_addr()?.port();
-    let mut link = TcpLink::over(rt, listener);
+    let mut link = TcpLink::over(rt.alloc(), rt, listener);
     show_link(rt, &mut link, port)
 }
 

@@ -1,3 +1,3 @@
-pub mod Puttings
+pub mod Sendings
 pub mod Streams
 pub mod Behind

@@ -8,8 +8,7 @@ use Rattle.bus_types.specs.Relay.{Served, Windows}
 use Rattle.event_codec.specs.Streams.{windows_bytes}
 use Rattle.event_codec.specs.Reply.{reply_bytes}
 use Rattle.bus_http.specs.Talks.{reply_text}
-use Rattle.bus_http.specs.Sent.{WroteFront}
-use Rattle.bus_http.specs.Pages.{Sends}
+use Rattle.bus_http.specs.Sent.{WroteFront, Sends}
 use Rattle.range_ring.specs.Answering.{HasLooked, IsLawful}
 use Rattle.range_ring.specs.Belonging.{PassIs}
 use Rattle.range_ring.specs.Ranges.{RangeIs, IsRange, IsAnswer}

@@ -8,7 +8,7 @@ use Rattle.event_codec.specs.Reply.{reply_bytes}
 use Rattle.bus_wire.specs.declared.ask.Ask.{Ask}
 use Rattle.bus_wire.specs.declared.ask.Ask.TheVariants.{Stream, Start, Scan, Target, Catchup, Delta}
 use Rattle.bus_http.specs.Talks.{reply_text}
-use Rattle.bus_http.specs.Pages.{Sends}
+use Rattle.bus_http.specs.Sent.{Sends}
 use Rattle.range_ring.specs.Answering.{HasLooked, IsLawful}
 use Rattle.range_ring.specs.Belonging.{PassIs}
 use Rattle.range_ring.specs.Ranges.{IsAnswer}

@@ -5,7 +5,7 @@ ghost use Rattle.bus_http.specs.Talks.{Served, IsReadEnd, IsWriteEnd};
 ghost use Rattle.relay_server.specs.Shared.{MayShare, KeepsPass, IsBehind};
 
 use crate::turning::turn;
-use bus_http::{Inbox, MAX_ANSWERS, Page, ServeEnd};
+use bus_http::{Inbox, MAX_ANSWERS, ServeEnd};
 use bus_io::Conn;
 use bus_types::Timeline;
 use range_ring::{Pass, Ring};
@@ -41,10 +41,9 @@ pub fn serve_relay<T: Timeline, C: Conn, R: Wait>(
     let Ok(mut inbox) = Inbox::new(alloc) else {
         return ServeEnd::NoMemory;
     };
-    let mut page = Page::new(alloc);
     let mut answered = 0;
     while answered < MAX_ANSWERS {
-        if let Some(end) = turn(rt, alloc, ring, pass, &mut page, conn, &mut inbox) {
+        if let Some(end) = turn(rt, alloc, ring, pass, conn, &mut inbox) {
             return end;
         }
         answered += 1;

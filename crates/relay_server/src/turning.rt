@@ -7,7 +7,7 @@ ghost use Rattle.bus_http.specs.Turns.{Responding, Turned};
 ghost use Rattle.relay_server.specs.Shared.{MayShare, KeepsPass};
 
 use crate::stream::send_stream;
-use bus_http::{Inbox, Page, Request, ServeEnd, Side, decline, read_request};
+use bus_http::{Inbox, Request, ServeEnd, Side, decline, read_request};
 use bus_io::{Conn, Sink};
 use bus_types::Timeline;
 use bus_wire::Ask;
@@ -21,7 +21,6 @@ fn respond<T: Timeline, R: Wait, W: Sink>(
     rt: &R,
     ring: &Ring<T>,
     pass: &mut Pass<T>,
-    page: &mut Page,
     out: &mut W,
     request: &Request,
 ) -> Option<ServeEnd>
@@ -36,7 +35,7 @@ fn respond<T: Timeline, R: Wait, W: Sink>(
     let Ask::Stream { scn, filter, max } = &request.ask else {
         unreachable!();
     };
-    let Ok(()) = send_stream(rt, ring, pass, page, *scn, filter, *max, out) else {
+    let Ok(()) = send_stream(rt, ring, pass, *scn, filter, *max, out) else {
         return Some(ServeEnd::WriteFault);
     };
     if request.close {
@@ -51,7 +50,6 @@ pub(crate) fn turn<T: Timeline, C: Conn, R: Wait>(
     alloc: Global,
     ring: &Ring<T>,
     pass: &mut Pass<T>,
-    page: &mut Page,
     conn: &mut C,
     inbox: &mut Inbox,
 ) -> Option<ServeEnd>
@@ -66,7 +64,7 @@ pub(crate) fn turn<T: Timeline, C: Conn, R: Wait>(
 {
     match read_request(alloc, inbox, conn, Side::Relay) {
         Ok(None) => Some(ServeEnd::Closed),
-        Ok(Some(request)) => respond(rt, ring, pass, page, conn, &request),
+        Ok(Some(request)) => respond(rt, ring, pass, conn, &request),
         Err(fault) => Some(decline(conn, fault)),
     }
 }

@@ -3,13 +3,13 @@ use Rattle.bus_types.specs.Window.{Span}
 use Rattle.partition_filter.specs.Selection.{test_of}
 use Rattle.event_codec.specs.Parsing.{AreWindows}
 use Rattle.range_ring.specs.Parts.{bytes_at, IsPlace}
-use Rattle.relay_server.proofs.Puttings.{PartsPut}
-use Rattle.relay_server.proofs.stream.put_window.Given as goal
+use Rattle.relay_server.proofs.Sendings.{PartsSent}
+use Rattle.relay_server.proofs.stream.send_window.Given as goal
 
 abbrev pub invariant-loop-part : goal.invariant-loop-part
 invariant-loop-part g l = record {
   place : IsPlace (bytes_at l.range.entries l.i) l.place;
-  put : (items : List Span) → AreWindows items (bytes_at l.range.entries l.i) → PartsPut (test_of l.range.filter) (bytes_at l.range.entries l.i) (g.W.Sink.written l.fn.out) (g.W.Sink.written l.out) l.fn.page l.page items l.place;
+  sent : (items : List Span) → AreWindows items (bytes_at l.range.entries l.i) → PartsSent (test_of l.range.filter) (bytes_at l.range.entries l.i) (g.W.Sink.written l.fn.out) (g.W.Sink.written l.out) items l.place;
   later : g.W.Sink.faults l.fn.out ≤ g.W.Sink.faults l.out;
   beside : g.W.Sink.beside l.out ≡ g.W.Sink.beside l.fn.out;
 }

@@ -1,4 +1,4 @@
--- The windows of a range, put behind what is gathered, part by part.
+-- The windows of a range, written one after another, part by part.
 use Rattle.std.proofs.Common.{◌≡◌, ℕ, ◌+◌, ◌<◌, ◌≤◌, inl, inr, List, [], ◌∷◌, ◌++◌, append-nil, append_assoc, length, length-append, take, drop, get_or, Option, Some, refl, sym, ap, subst, ◌∙◌, arith}
 use Rattle.std.specs.List.{slice_get}
 use Rattle.std.proofs.lemmas.Bool.{cond-true, cond-false, cases_Bool}
@@ -23,8 +23,9 @@ use Rattle.range_ring.proofs.Lending.{as_many, held_whole}
 use Rattle.bus_http.specs.Replies.{reply_head}
 use Rattle.bus_http.specs.Talks.{reply_text}
 use Rattle.bus_http.specs.Sent.{WroteFront}
-use Rattle.bus_http.specs.Pages.{Gathers}
-use Rattle.bus_http.proofs.Sendings.{gathers_nothing, gathers_more, gathers_fault, first_part}
+use Rattle.std.specs.Io.KnownBytes.{Appends}
+use Rattle.std.proofs.KnownBytes.{Appends-trans}
+use Rattle.bus_http.proofs.Sendings.{nothing, first_part, second_part}
 
 -- ---- what is left behind a part is shorter than what was left
 
@@ -120,49 +121,47 @@ place_later test whole bytes place next at part =
 
 -- ---- the parts of a window
 
--- of items so much was put, and these are left at a place
-pub record PartsPut (test : Test) (whole : List ℕ) (old new : Option (List ℕ)) (before held : List ℕ) (items : List Span) (place : ℕ) : Type 0 where
+-- of items so much was written, and these are left at a place
+pub record PartsSent (test : Test) (whole : List ℕ) (old new : Option (List ℕ)) (items : List Span) (place : ℕ) : Type 0 where
   pub left : List Span
   pub are : AreWindows left (drop place whole)
   pub done : List ℕ
-  pub gathers : Gathers old new before held done
+  pub written : Appends old new done
   pub parts : done ++ windows_bytes (cuts test left) ≡ windows_bytes (cuts test items)
 
-pub parts_begin : (test : Test) (whole : List ℕ) (w : Option (List ℕ)) (held : List ℕ) (items : List Span) → AreWindows items whole → PartsPut test whole w w held held items 0
-parts_begin test whole w held items are = record { left = items; are = are; done = []; gathers = gathers_nothing w held; parts = refl }
+pub parts_begin : (test : Test) (whole : List ℕ) (w : Option (List ℕ)) (items : List Span) → AreWindows items whole → PartsSent test whole w w items 0
+parts_begin test whole w items are = record { left = items; are = are; done = []; written = nothing w; parts = refl }
 
-pub parts_more : (test : Test) (whole bytes : List ℕ) (old mid new : Option (List ℕ)) (before held after : List ℕ) (items : List Span) (place next : ℕ) → PartsPut test whole old mid before held items place
-    → ((us : List Span) → AreWindows us (drop place whole) → IsPart test whole us bytes next) → Gathers mid new held after bytes → PartsPut test whole old new before after items next
-parts_more test whole bytes old mid new before held after items place next p part g =
+pub parts_more : (test : Test) (whole bytes : List ℕ) (old mid new : Option (List ℕ)) (items : List Span) (place next : ℕ) → PartsSent test whole old mid items place
+    → ((us : List Span) → AreWindows us (drop place whole) → IsPart test whole us bytes next) → Appends mid new bytes → PartsSent test whole old new items next
+parts_more test whole bytes old mid new items place next p part w =
     let is = part p.left p.are in
     record {
       left = behind_part test p.left;
       are = is.left;
       done = p.done ++ bytes;
-      gathers = gathers_more old mid new before held after p.done bytes p.gathers g;
+      written = Appends-trans old mid new p.done bytes p.written w;
       parts = append_assoc p.done bytes (windows_bytes (cuts test (behind_part test p.left))) ∙ ap (λ (x : List ℕ). p.done ++ x) (sym is.cut) ∙ p.parts;
     }
 
-pub parts_done : (test : Test) (whole : List ℕ) (old new : Option (List ℕ)) (before held : List ℕ) (items : List Span) (place : ℕ) → PartsPut test whole old new before held items place
-    → ((us : List Span) → AreWindows us (drop place whole) → us ≡ []) → Gathers old new before held (windows_bytes (cuts test items))
-parts_done test whole old new before held items place p none =
+pub parts_done : (test : Test) (whole : List ℕ) (old new : Option (List ℕ)) (items : List Span) (place : ℕ) → PartsSent test whole old new items place
+    → ((us : List Span) → AreWindows us (drop place whole) → us ≡ []) → Appends old new (windows_bytes (cuts test items))
+parts_done test whole old new items place p none =
     let all : p.done ≡ windows_bytes (cuts test items) =
     sym (append-nil p.done) ∙ ap (λ (us : List Span). p.done ++ windows_bytes (cuts test us)) (sym (none p.left p.are)) ∙ p.parts in
-    subst (λ (x : List ℕ). Gathers old new before held x) all p.gathers
+    subst (λ (x : List ℕ). Appends old new x) all p.written
 
--- a fault behind what was put, of which a rest was left
-rest_fault : (old mid new : Option (List ℕ)) (before held done bytes rest all : List ℕ) → Gathers old mid before held done → WroteFront mid new (held ++ bytes) → done ++ (bytes ++ rest) ≡ all → WroteFront old new (before ++ all)
-rest_fault old mid new before held done bytes rest all g w is =
-    let front : WroteFront old new ((before ++ (done ++ bytes)) ++ rest) = first_part old new (before ++ (done ++ bytes)) rest (gathers_fault old mid new before held done bytes g w) in
-    subst (λ (x : List ℕ). WroteFront old new x)
-    (append_assoc before (done ++ bytes) rest ∙ ap (λ (x : List ℕ). before ++ x) (append_assoc done bytes rest ∙ is)) front
+-- a fault behind what was written, of which a rest was left
+rest_fault : (old mid new : Option (List ℕ)) (done bytes rest all : List ℕ) → Appends old mid done → WroteFront mid new bytes → done ++ (bytes ++ rest) ≡ all → WroteFront old new all
+rest_fault old mid new done bytes rest all first w is =
+    subst (λ (x : List ℕ). WroteFront old new x) is (second_part old mid new done (bytes ++ rest) first (first_part mid new bytes rest w))
 
-pub parts_fault : (test : Test) (whole bytes : List ℕ) (old mid new : Option (List ℕ)) (before held : List ℕ) (items : List Span) (place next : ℕ) → PartsPut test whole old mid before held items place
-    → ((us : List Span) → AreWindows us (drop place whole) → IsPart test whole us bytes next) → WroteFront mid new (held ++ bytes) → WroteFront old new (before ++ windows_bytes (cuts test items))
-parts_fault test whole bytes old mid new before held items place next p part w =
+pub parts_fault : (test : Test) (whole bytes : List ℕ) (old mid new : Option (List ℕ)) (items : List Span) (place next : ℕ) → PartsSent test whole old mid items place
+    → ((us : List Span) → AreWindows us (drop place whole) → IsPart test whole us bytes next) → WroteFront mid new bytes → WroteFront old new (windows_bytes (cuts test items))
+parts_fault test whole bytes old mid new items place next p part w =
     let is = part p.left p.are in
     let rest = windows_bytes (cuts test (behind_part test p.left)) in
-    rest_fault old mid new before held p.done bytes rest (windows_bytes (cuts test items)) p.gathers w (ap (λ (x : List ℕ). p.done ++ x) (sym is.cut) ∙ p.parts)
+    rest_fault old mid new p.done bytes rest (windows_bytes (cuts test items)) p.written w (ap (λ (x : List ℕ). p.done ++ x) (sym is.cut) ∙ p.parts)
 
 -- ---- the windows of a range
 
@@ -176,13 +175,13 @@ pub cuts_length : (test : Test) (ws : List Span) → length (windows_bytes (cuts
 cuts_length test [] = refl
 cuts_length test (w ∷ ws) = omega (arith, length-append (window_bytes (cut test w)) (windows_bytes (cuts test ws)), window_length (cut test w), cuts_length test ws)
 
--- so many windows of a range were put
-abbrev pub WindowsPut : Option (List Span) → List Held → Test → Option (List ℕ) → Option (List ℕ) → List ℕ → List ℕ → ℕ → Type 0
-WindowsPut told entries test old new before held i =
-    (position : ℕ) (windows : List Span) → HoldAll told position entries windows → Gathers old new before held (windows_bytes (cuts test (take i windows)))
+-- so many windows of a range were written
+abbrev pub WindowsSent : Option (List Span) → List Held → Test → Option (List ℕ) → Option (List ℕ) → ℕ → Type 0
+WindowsSent told entries test old new i =
+    (position : ℕ) (windows : List Span) → HoldAll told position entries windows → Appends old new (windows_bytes (cuts test (take i windows)))
 
-pub windows_begin : (told : Option (List Span)) (entries : List Held) (test : Test) (w : Option (List ℕ)) (held : List ℕ) → WindowsPut told entries test w w held held 0
-windows_begin told entries test w held position windows h = gathers_nothing w held
+pub windows_begin : (told : Option (List Span)) (entries : List Held) (test : Test) (w : Option (List ℕ)) → WindowsSent told entries test w w 0
+windows_begin told entries test w position windows h = nothing w
 
 -- the window at a place
 at_place : (told : Option (List Span)) (position i : ℕ) (entries : List Held) (windows : List Span) → HoldAll told position entries windows → i < length entries → (w : Span) × (slice_get windows i ≡ Some w)
@@ -196,20 +195,20 @@ front_is windows i w within there = take_more windows i w within ∙ ap (λ (x :
 whole_is : (windows : List Span) (i : ℕ) (w : Span) → i < length windows → slice_get windows i ≡ Some w → take i windows ++ (w ∷ []) ++ drop (i + 1) windows ≡ windows
 whole_is windows i w within there = ap (λ (x : List Span). x ++ drop (i + 1) windows) (sym (front_is windows i w within there)) ∙ take-append-drop (i + 1) windows
 
-pub windows_more : (told : Option (List Span)) (entries : List Held) (test : Test) (old mid new : Option (List ℕ)) (before held after : List ℕ) (i : ℕ) → WindowsPut told entries test old mid before held i → i < length entries
-    → ((items : List Span) → AreWindows items (bytes_at entries i) → Gathers mid new held after (windows_bytes (cuts test items))) → WindowsPut told entries test old new before after (i + 1)
-windows_more told entries test old mid new before held after i put within one position windows h =
+pub windows_more : (told : Option (List Span)) (entries : List Held) (test : Test) (old mid new : Option (List ℕ)) (i : ℕ) → WindowsSent told entries test old mid i → i < length entries
+    → ((items : List Span) → AreWindows items (bytes_at entries i) → Appends mid new (windows_bytes (cuts test items))) → WindowsSent told entries test old new (i + 1)
+windows_more told entries test old mid new i sent within one position windows h =
     let at = at_place told position i entries windows h within in
-    let g = one (at.0 ∷ []) (held_whole told position i entries windows at.0 h at.1) in
+    let w = one (at.0 ∷ []) (held_whole told position i entries windows at.0 h at.1) in
     let inside : i < length windows = omega (arith, within, as_many told position entries windows h) in
-    subst (λ (x : List ℕ). Gathers old new before after x)
+    subst (λ (x : List ℕ). Appends old new x)
     (sym (cuts_append test (take i windows) (at.0 ∷ [])) ∙ ap (λ (x : List Span). windows_bytes (cuts test x)) (sym (front_is windows i at.0 inside at.1)))
-    (gathers_more old mid new before held after (windows_bytes (cuts test (take i windows))) (windows_bytes (cuts test (at.0 ∷ []))) (put position windows h) g)
+    (Appends-trans old mid new (windows_bytes (cuts test (take i windows))) (windows_bytes (cuts test (at.0 ∷ []))) (sent position windows h) w)
 
-pub windows_fault : (told : Option (List Span)) (entries : List Held) (test : Test) (old mid new : Option (List ℕ)) (before held : List ℕ) (i : ℕ) → WindowsPut told entries test old mid before held i → i < length entries
-    → ((items : List Span) → AreWindows items (bytes_at entries i) → WroteFront mid new (held ++ windows_bytes (cuts test items))) → (position : ℕ) (windows : List Span) → HoldAll told position entries windows
-    → WroteFront old new (before ++ windows_bytes (cuts test windows))
-windows_fault told entries test old mid new before held i put within one position windows h =
+pub windows_fault : (told : Option (List Span)) (entries : List Held) (test : Test) (old mid new : Option (List ℕ)) (i : ℕ) → WindowsSent told entries test old mid i → i < length entries
+    → ((items : List Span) → AreWindows items (bytes_at entries i) → WroteFront mid new (windows_bytes (cuts test items))) → (position : ℕ) (windows : List Span) → HoldAll told position entries windows
+    → WroteFront old new (windows_bytes (cuts test windows))
+windows_fault told entries test old mid new i sent within one position windows h =
     let at = at_place told position i entries windows h within in
     let w = one (at.0 ∷ []) (held_whole told position i entries windows at.0 h at.1) in
     let inside : i < length windows = omega (arith, within, as_many told position entries windows h) in
@@ -221,13 +220,13 @@ windows_fault told entries test old mid new before held i put within one positio
     ∙ ap (λ (x : List ℕ). x ++ rest) (sym (cuts_append test (take i windows) (at.0 ∷ [])))
     ∙ sym (cuts_append test (take i windows ++ (at.0 ∷ [])) (drop (i + 1) windows))
     ∙ ap (λ (x : List Span). windows_bytes (cuts test x)) (whole_is windows i at.0 inside at.1) in
-    rest_fault old mid new before held front own rest (windows_bytes (cuts test windows)) (put position windows h) w parts
+    rest_fault old mid new front own rest (windows_bytes (cuts test windows)) (sent position windows h) w parts
 
-pub windows_done : (told : Option (List Span)) (entries : List Held) (test : Test) (old new : Option (List ℕ)) (before held : List ℕ) (i : ℕ) → WindowsPut told entries test old new before held i → length entries ≤ i → (position : ℕ) (windows : List Span)
-    → HoldAll told position entries windows → Gathers old new before held (windows_bytes (cuts test windows))
-windows_done told entries test old new before held i put all position windows h =
+pub windows_done : (told : Option (List Span)) (entries : List Held) (test : Test) (old new : Option (List ℕ)) (i : ℕ) → WindowsSent told entries test old new i → length entries ≤ i → (position : ℕ) (windows : List Span)
+    → HoldAll told position entries windows → Appends old new (windows_bytes (cuts test windows))
+windows_done told entries test old new i sent all position windows h =
     let full : take i windows ≡ windows = take_all i windows (omega (arith, all, as_many told position entries windows h)) in
-    subst (λ (x : List Span). Gathers old new before held (windows_bytes (cuts test x))) full (put position windows h)
+    subst (λ (x : List Span). Appends old new (windows_bytes (cuts test x))) full (sent position windows h)
 
 -- ---- a whole reply
 
@@ -235,13 +234,13 @@ windows_done told entries test old new before held i put all position windows h 
 size_is : (told : Option (List Span)) (position : ℕ) (test : Test) (max : ℕ) (entries : List Held) (size : ℕ) (windows : List Span) → IsRange told position test max entries size windows → size ≡ length (windows_bytes (cuts test windows))
 size_is told position test max entries size windows r = r.total ∙ sym (cuts_length test windows)
 
-pub range_put : (told : Option (List Span)) (test : Test) (entries : List Held) (size : ℕ) (old mid new : Option (List ℕ)) (held after : List ℕ) → Gathers old mid [] held (reply_head size)
-    → ((position : ℕ) (windows : List Span) → HoldAll told position entries windows → Gathers mid new held after (windows_bytes (cuts test windows))) → (position max : ℕ) (windows : List Span)
-    → IsRange told position test max entries size windows → Gathers old new [] after (reply_text (windows_bytes (cuts test windows)))
-range_put told test entries size old mid new held after head put position max windows r =
+pub range_sent : (told : Option (List Span)) (test : Test) (entries : List Held) (size : ℕ) (old mid new : Option (List ℕ)) → Appends old mid (reply_head size)
+    → ((position : ℕ) (windows : List Span) → HoldAll told position entries windows → Appends mid new (windows_bytes (cuts test windows))) → (position max : ℕ) (windows : List Span)
+    → IsRange told position test max entries size windows → Appends old new (reply_text (windows_bytes (cuts test windows)))
+range_sent told test entries size old mid new head sent position max windows r =
     let body = windows_bytes (cuts test windows) in
-    subst (λ (n : ℕ). Gathers old new [] after (reply_head n ++ body)) (size_is told position test max entries size windows r)
-    (gathers_more old mid new [] held after (reply_head size) body head (put position windows r.holds))
+    subst (λ (n : ℕ). Appends old new (reply_head n ++ body)) (size_is told position test max entries size windows r)
+    (Appends-trans old mid new (reply_head size) body head (sent position windows r.holds))
 
 pub range_headless : (told : Option (List Span)) (test : Test) (entries : List Held) (size : ℕ) (old new : Option (List ℕ)) → WroteFront old new (reply_head size) → (position max : ℕ) (windows : List Span)
     → IsRange told position test max entries size windows → WroteFront old new (reply_text (windows_bytes (cuts test windows)))
@@ -249,10 +248,10 @@ range_headless told test entries size old new w position max windows r =
     let body = windows_bytes (cuts test windows) in
     subst (λ (n : ℕ). WroteFront old new (reply_head n ++ body)) (size_is told position test max entries size windows r) (first_part old new (reply_head size) body w)
 
-pub range_fault : (told : Option (List Span)) (test : Test) (entries : List Held) (size : ℕ) (old mid new : Option (List ℕ)) (held : List ℕ) → Gathers old mid [] held (reply_head size)
-    → ((position : ℕ) (windows : List Span) → HoldAll told position entries windows → WroteFront mid new (held ++ windows_bytes (cuts test windows))) → (position max : ℕ) (windows : List Span)
+pub range_fault : (told : Option (List Span)) (test : Test) (entries : List Held) (size : ℕ) (old mid new : Option (List ℕ)) → Appends old mid (reply_head size)
+    → ((position : ℕ) (windows : List Span) → HoldAll told position entries windows → WroteFront mid new (windows_bytes (cuts test windows))) → (position max : ℕ) (windows : List Span)
     → IsRange told position test max entries size windows → WroteFront old new (reply_text (windows_bytes (cuts test windows)))
-range_fault told test entries size old mid new held head put position max windows r =
+range_fault told test entries size old mid new head sent position max windows r =
     let body = windows_bytes (cuts test windows) in
     subst (λ (n : ℕ). WroteFront old new (reply_head n ++ body)) (size_is told position test max entries size windows r)
-    (gathers_fault old mid new [] held (reply_head size) body head (put position windows r.holds))
+    (second_part old mid new (reply_head size) body head (sent position windows r.holds))
