@@ -1,7 +1,7 @@
 #!/usr/bin/env python3
 """Times a relay that serves one connection beside a plain server that writes the same bytes (serve_floor.rs): requests a second,
-and microseconds of the server's processor time a request, for replies of 4 KB and of 1 MB, with 1 and with 16 requests sent
-before their answers are read. The least of several runs.
+and microseconds of the server's processor time a request, for replies of one window of 4 KB and of 1 MB and of 32 windows of 100
+bytes, with 1 and with 16 requests sent before their answers are read. The least of several runs.
 
 Usage: serve.py [RUNS]. Build the program first, as built.py says; rustc must be on the path.
 """
@@ -16,20 +16,21 @@ import time
 from built import HERE, PROGRAM, need_program, processor
 
 PORT = 8765
-REQUESTS = {"4 KB": 20_000, "1 MB": 20_000}
-PAYLOADS = {"4 KB": (1, 4_056), "1 MB": (16, 65_511)}
+REQUESTS = {"32 small": 20_000, "4 KB": 20_000, "1 MB": 20_000}
+# The windows of a reply, the changes of each and the bytes of a payload.
+PAYLOADS = {"32 small": (32, 1, 60), "4 KB": (1, 1, 4_056), "1 MB": (1, 16, 65_511)}
 WINDOW_MARK, EVENT_HEAD = 17, 23
 
 
 def body_size(name):
-    count, size = PAYLOADS[name]
-    return count * (EVENT_HEAD + size) + WINDOW_MARK
+    windows, count, size = PAYLOADS[name]
+    return windows * (count * (EVENT_HEAD + size) + WINDOW_MARK)
 
 
 def script(name):
-    count, size = PAYLOADS[name]
+    windows, count, size = PAYLOADS[name]
     changes = " ".join(f"0/{key}={'07' * size}" for key in range(count))
-    return f"commit 1 {changes}\n".encode()
+    return "".join(f"commit {scn + 1} {changes}\n" for scn in range(windows)).encode()
 
 
 def connected():
@@ -85,7 +86,7 @@ def main():
         floor = pathlib.Path(folder) / "serve_floor"
         subprocess.run(["rustc", "-O", "-o", floor, HERE / "serve_floor.rs"], check=True)
         relay = [PROGRAM, "relay", "--port", str(PORT), "--bytes", "16777216", "--windows", "64", "--connections", "1"]
-        print(f"{'reply':6} {'sent ahead':>10} {'requests/s':>11} {'plain':>9} {'us/request':>11} {'plain':>7} {'ratio':>6}")
+        print(f"{'reply':8} {'sent ahead':>10} {'requests/s':>11} {'plain':>9} {'us/request':>11} {'plain':>7} {'ratio':>6}")
         for name, requests in REQUESTS.items():
             size = body_size(name)
             head = len(f"HTTP/1.1 200 OK\r\nContent-Type: application/octet-stream\r\nContent-Length: {size}\r\n\r\n")
@@ -93,7 +94,7 @@ def main():
                 ours = least(relay, script(name), requests, depth, head + size, runs)
                 plain = least([floor, str(PORT), str(size)], b"", requests, depth, head + size, runs)
                 print(
-                    f"{name:6} {depth:>10} {1 / ours[0]:>11.0f} {1 / plain[0]:>9.0f}"
+                    f"{name:8} {depth:>10} {1 / ours[0]:>11.0f} {1 / plain[0]:>9.0f}"
                     f" {ours[1] * 1e6:>11.1f} {plain[1] * 1e6:>7.1f} {ours[1] / plain[1]:>6.2f}"
                 )
 
